@@ -1,0 +1,7 @@
+pub mod Lambda
+pub mod Packing
+pub mod Unpacking
+pub mod Alike
+pub mod Rounding
+pub mod RoundTrip
+pub mod Examples

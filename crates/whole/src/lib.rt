@@ -1,0 +1,60 @@
+// Whole numbers: wrapping at 32 bits, the lesser and the greater of two, the whole root.
+
+ghost use mathlib.Core.Path.{_≡_};
+ghost use lib.IntN.{_+ℤ_, _*ℤ_};
+ghost use mir.Syntax.{w32};
+ghost use Rattle.whole.specs.Numbers.{wrapped, liesIn, lesserOf, greaterOf, rootOf};
+
+// The i32 that is w but for a multiple of 2^32. A shift up drops the high half, and the shift
+// down copies the sign of what is left.
+pub fn wrap32(w: i64) -> i32
+    ensures { λ r. ⌜ r ≡ wrapped w32 w ⌝ }
+{
+    ((w << 32) >> 32) as i32
+}
+
+// In 64 bits neither a sum nor a product of two i32 is cut before it is wrapped.
+pub fn wrapping_add(a: i32, b: i32) -> i32
+    ensures { λ r. ⌜ r ≡ wrapped w32 (a +ℤ b) ⌝ }
+{
+    wrap32(a as i64 + b as i64)
+}
+
+pub fn wrapping_mul(a: i32, b: i32) -> i32
+    ensures { λ r. ⌜ r ≡ wrapped w32 (a *ℤ b) ⌝ }
+{
+    wrap32(a as i64 * b as i64)
+}
+
+pub fn within(value: i32, least: i32, greatest: i32) -> bool
+    ensures { λ r. ⌜ r ≡ liesIn least greatest value ⌝ }
+{
+    (least <= value) & (value <= greatest)
+}
+
+pub fn lesser(a: i32, b: i32) -> i32
+    ensures { λ r. ⌜ r ≡ lesserOf a b ⌝ }
+{
+    if a < b { a } else { b }
+}
+
+pub fn greater(a: i32, b: i32) -> i32
+    ensures { λ r. ⌜ r ≡ greaterOf a b ⌝ }
+{
+    if a < b { b } else { a }
+}
+
+// The largest whole number whose square is at most n: twice the root of n / 4, or one more.
+pub fn root(n: u32) -> u32
+    ensures { λ r. ⌜ r ≡ rootOf n ⌝ }
+{
+    if n == 0 {
+        return 0;
+    }
+    let r = 2 * root(n / 4);
+    let s = r + 1;
+    if s * s <= n {
+        return s;
+    }
+    r
+}
