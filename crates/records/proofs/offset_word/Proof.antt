@@ -8,12 +8,6 @@ use Rattle.records.specs.Packing.{offsetWord}
 use Rattle.records.proofs.offset_word.Statement.{statement}
 use Rattle.records.proofs.offset_word.Tie as tie
 
-enum-known-offset : tie.Need-enum-known-offset
-enum-known-offset c = search needs
-
-enum-told : tie.Need-enum-told
-enum-told c = search needs
-
 returns : tie.Need-returns
 returns c = sym (ap offsetWord (c .enum-told .given .1))
 
@@ -23,4 +17,4 @@ returns-2 c =
     toZ-ofZ f ∙ sym (ap offsetWord (c .before .offset .given .1))
 
 pub offset-word-spec : {M : Type 1} → statement M
-offset-word-spec = tie.close (tie.spec enum-known-offset enum-told returns returns-2)
+offset-word-spec = tie.close (tie.spec (λ c. search needs) (λ c. search needs) returns returns-2)

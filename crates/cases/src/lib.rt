@@ -1,0 +1,131 @@
+// Test vectors: a line for each case, whole numbers in it, the inputs left of an `=` and the
+// answers right of it. A line that begins with # is no case.
+
+ghost use Prim.Native.Nat.{_≤_, _<_};
+ghost use lib.ListN.{length};
+ghost use Rattle.cases.specs.Places.{Past, Tells};
+
+// What is known of a line on the way through it.
+pub struct Case {
+    pub inputs: usize,
+    pub count: usize,
+    pub value: u64,
+    pub open: bool,
+    pub negative: bool,
+    pub comment: bool,
+}
+
+pub struct Line {
+    pub inputs: usize,
+    pub count: usize,
+    pub next: usize,
+}
+
+fn fresh() -> Case {
+    Case {
+        inputs: 0,
+        count: 0,
+        value: 0,
+        open: false,
+        negative: false,
+        comment: false,
+    }
+}
+
+// Past 18 digits no more are counted: no number of a vector has as many.
+fn with_digit(case: Case, digit: u64) -> Case
+    requires { ⌜ digit < 10 ⌝ }
+{
+    let mut next = case;
+    let value = case.value;
+    if value < 100000000000000000 {
+        next.value = value * 10 + digit;
+    }
+    next.open = true;
+    next
+}
+
+fn signed(value: u64, negative: bool) -> i64 {
+    if value > 1000000000000000000 {
+        return 0;
+    }
+    if negative {
+        return 0 - value as i64;
+    }
+    value as i64
+}
+
+// The number that was being read is stored; past the end of numbers it is dropped.
+fn closed(case: Case, numbers: &mut [i64]) -> Case {
+    let open = case.open;
+    let count = case.count;
+    let value = case.value;
+    let negative = case.negative;
+    let mut next = case;
+    next.value = 0;
+    next.open = false;
+    next.negative = false;
+    if !open {
+        return next;
+    }
+    if count < numbers.len() {
+        numbers[count] = signed(value, negative);
+        next.count = count + 1;
+    }
+    next
+}
+
+fn fed(case: Case, byte: u8, numbers: &mut [i64]) -> Case {
+    let comment = case.comment;
+    let mut next = case;
+    if comment {
+        return next;
+    }
+    if (48 <= byte) & (byte <= 57) {
+        return with_digit(case, (byte % 48) as u64);
+    }
+    if byte == b'-' {
+        next.negative = true;
+        return next;
+    }
+    if byte == b'#' {
+        next.comment = true;
+        return next;
+    }
+    next = closed(case, numbers);
+    if byte == b'=' {
+        next.inputs = next.count;
+    }
+    next
+}
+
+// The line from at on: its numbers, how many there are and how many of them are inputs, and
+// where the next line begins.
+pub fn next_line(text: &[u8], at: usize, numbers: &mut [i64]) -> Line
+    requires { ⌜ at < length (now text) ⌝ }
+    ensures { λ r. ⌜ Past at (length (now (text .entry))) (r .next) ⌝ }
+{
+    let mut case = fresh();
+    let mut next = at;
+    while next < text.len() {
+        let byte = text[next];
+        next += 1;
+        if byte == b'\n' {
+            break;
+        }
+        case = fed(case, byte, numbers);
+    }
+    let done = closed(case, numbers);
+    Line {
+        inputs: done.inputs,
+        count: done.count,
+        next: next,
+    }
+}
+
+// A vector's number against a value of 32 bits.
+pub fn is(number: i64, value: i32) -> bool
+    ensures { λ r. ⌜ Tells r number value ⌝ }
+{
+    number == value as i64
+}

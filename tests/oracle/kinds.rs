@@ -1,0 +1,34 @@
+//! The kinds of cases, by name.
+
+use crate::lines::{Fault, Numbers, Work};
+use crate::random::Random;
+use crate::{choose, cost, evaluate, finish, packing, plan, planes, score, serpentine};
+
+pub(crate) struct Kind {
+    pub(crate) name: &'static str,
+    pub(crate) read: fn(&mut Numbers<'_>) -> Result<Work, Fault>,
+    pub(crate) random: fn(&mut Random) -> Vec<i64>,
+    pub(crate) limits: fn() -> Vec<Vec<i64>>,
+}
+
+pub(crate) const KINDS: [Kind; 15] = [
+    packing::PAIR,
+    packing::UNPAIR,
+    packing::RECORD,
+    packing::UNRECORD,
+    cost::COST,
+    score::SCORE,
+    score::ROOT,
+    serpentine::POSITION,
+    serpentine::BLOCK,
+    serpentine::ORDER,
+    planes::OFFSET,
+    plan::PLAN,
+    evaluate::EVALUATE,
+    choose::CHOOSE,
+    finish::FINISH,
+];
+
+pub(crate) fn named(name: &str) -> Option<&'static Kind> {
+    KINDS.iter().find(|kind| kind.name == name)
+}
