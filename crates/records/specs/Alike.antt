@@ -7,9 +7,6 @@ use Rattle.records.specs.declared.Pair.{Pair}
 use Rattle.records.specs.declared.Record.{Record}
 use Rattle.records.specs.declared.Words.{Words}
 
-pub two-hold : {a b A B : Bool} → a ≡ A → b ≡ B → (a && b) ≡ (A && B)
-two-hold p q = cc
-
 pub five-hold : {a b c d e A B C D E : Bool} → a ≡ A → b ≡ B → c ≡ C → d ≡ D → e ≡ E → (a && b && c && d && e) ≡ (A && B && C && D && E)
 five-hold p q r s t = cc
 

@@ -2,15 +2,15 @@
 -- compute, so that a chain of steps asks nothing of `omega`. `Is` ties what the machine reads of a local to the number meant. Assumes nothing.
 use mathlib.Core.Path.{_≡_, refl, sym, ap, subst, _∙_}
 use Prim.Native.Nat.{ℕ, zero, suc, _+_, _-_, _*_, _/_, _^_, _≤_, _<_}
-use native.Mathlib.Nat.{le-refl, le-trans, lt-of-le-of-lt, mul-le-mul, mul-le-mul-left, mul-le-mul-right, div-le-self}
+use native.Mathlib.Nat.{mul-le-mul, mul-le-mul-right, div-le-self}
 use native.Mathlib.Omega.{arith}
-use lib.Dec.{T, ltb, leb, ltb→lt, leb→le, lit<}
+use lib.Dec.{T, ltb, leb, ltb→lt, leb→le}
 use lib.IntN.{ℤ, pos, negsuc, _+ℤ_, _-ℤ_, _*ℤ_, negℤ, natAbs}
-use lib.Signed.{mag, _≤ℤ_, quotZ, shrZ, natAbs-le}
+use lib.Signed.{_≤ℤ_, quotZ, shrZ, nonNeg}
 use mir.Syntax.{Width, w16, w32, w64}
-use mir.Val.{SFits, toZ, ofZ, hbits}
+use mir.Val.{SFits, Fits, toZ, ofZ, bits, hbits}
 use mir.Facts.{toZ-ofZ}
-use Rattle.whole.specs.Signed.{P, N, signed, range, fit, add-is, diff-is, times-is, neg-P, neg-N}
+use Rattle.whole.specs.Signed.{P, N, signed, range, fit, add-is, diff-is, times-is, nonneg-of, abs-is}
 use Rattle.whole.specs.Floor.{quot-P, quot-N}
 
 pub record Within (l h : ℕ) (z : ℤ) : Type 0 where
@@ -97,8 +97,8 @@ pub record Is (w : Width) (l h : ℕ) (X x : ℤ) : Type 0 where
 pub is-arg : {w : Width} {l h : ℕ} {x : ℤ} → SFits w x → Within l h x → Is w l h (toZ w (ofZ w x)) x
 is-arg f p = record { same = toZ-ofZ f; lies = p }
 
-pub is-literal : {w : Width} {z : ℤ} → Is w (N z) (P z) z z
-is-literal = record { same = refl; lies = within-literal }
+pub is-literal : (w : Width) (z : ℤ) → Is w (N z) (P z) z z
+is-literal w z = record { same = refl; lies = within-literal }
 
 -- what an operation asks (`ask-`), and what it leaves (`is-`)
 module _ {w : Width} {l h l′ h′ : ℕ} {X x Y y : ℤ} (p : Is w l h X x) (q : Is w l′ h′ Y y) where
@@ -137,6 +137,13 @@ module _ {w : Width} {l h : ℕ} {X x : ℤ} (w′ : Width) (p : Is w l h X x) w
 
   pub is-cast : T (leb l (2 ^ hbits w′)) → T (ltb h (2 ^ hbits w′)) → Is w′ l h (toZ w′ (ofZ w′ X)) x
   is-cast t u = record { same = toZ-ofZ (ask-cast t u) ∙ p .same; lies = p .lies }
+
+-- a cast to an unsigned width, of a number that is not negative
+pub ask-unsigned : {w : Width} {h : ℕ} {X x : ℤ} (w′ : Width) → Is w 0 h X x → T (ltb h (2 ^ bits w′)) → T (nonNeg X) × Fits w′ (natAbs X)
+ask-unsigned {h = h} {X = X} {x = x} w′ p t =
+    let low = p .lies .low in
+    let high = p .lies .high in
+    rw (p .same) (nonneg-of x (omega arith), record { fits = omega (arith, abs-is x, ltb→lt h (2 ^ bits w′) t) })
 
 -- a number of 32 bits, and the same cast to 64
 pub word : {x : ℤ} → SFits w32 x → Is w32 2147483648 2147483647 (toZ w32 (ofZ w32 x)) x

@@ -1,6 +1,6 @@
 -- Tests joined by `&&`, and ranges: what one that holds says of its parts. Assumes nothing.
 use mathlib.Core.Path.{_≡_, refl}
-use mathlib.Core.Bool.{Bool, true, false, _&&_}
+use mathlib.Core.Bool.{Bool, true, false, _&&_, _||_}
 use lib.IntN.{ℤ}
 use lib.Signed.{leZ}
 use Rattle.whole.specs.Numbers.{liesIn}
@@ -13,6 +13,13 @@ left-of false b e = e
 pub right-of : (a b : Bool) → (a && b) ≡ true → b ≡ true
 right-of true b e = e
 right-of false b e = absurd (holds e)
+
+-- joined tests are alike where their parts are
+pub both-alike : {a b A B : Bool} → a ≡ A → b ≡ B → (a && b) ≡ (A && B)
+both-alike p q = cc
+
+pub either-alike : {a b A B : Bool} → a ≡ A → b ≡ B → (a || b) ≡ (A || B)
+either-alike p q = cc
 
 pub both-of : {a b : Bool} → a ≡ true → b ≡ true → (a && b) ≡ true
 both-of p q = cc

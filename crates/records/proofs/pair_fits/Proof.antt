@@ -3,7 +3,7 @@ use borrow.Author.Needs.{needs}
 use mir.Facts.{toZ-ofZ}
 use mir.Syntax.{w32}
 use mir.Val.{SFits}
-use Rattle.records.specs.Alike.{two-hold}
+use Rattle.whole.specs.Truth.{both-alike}
 use Rattle.records.proofs.pair_fits.Statement.{statement}
 use Rattle.records.proofs.pair_fits.Tie as tie
 
@@ -12,7 +12,7 @@ returns c =
     let told = c .before .before .struct-told2 .given in
     let f : SFits w32 (c .before .before .before .before .args .pair .first) = record { sfits = told .0 .1 } in
     let g : SFits w32 (c .before .before .before .before .args .pair .second) = record { sfits = told .1 .0 .1 } in
-    two-hold (simp toZ-ofZ at (c .before .within .ensures)) (simp toZ-ofZ at (c .within2 .ensures))
+    both-alike (simp toZ-ofZ at (c .before .within .ensures)) (simp toZ-ofZ at (c .within2 .ensures))
 
 pub pair-fits-spec : {M : Type 1} → statement M
 pair-fits-spec = tie.close (tie.spec (λ c κs. search needs) (λ c κs. search needs) returns)

@@ -3,7 +3,8 @@ use borrow.Author.Needs.{needs}
 use mir.Facts.{toZ-ofZ}
 use mir.Syntax.{w32}
 use mir.Val.{SFits}
-use Rattle.records.specs.Alike.{two-hold, five-hold}
+use Rattle.whole.specs.Truth.{both-alike}
+use Rattle.records.specs.Alike.{five-hold}
 use Rattle.records.specs.Packing.{recordFits}
 use Rattle.records.proofs.record_fits.Statement.{statement}
 use Rattle.records.proofs.record_fits.Tie as tie
@@ -24,8 +25,8 @@ returns c =
     let told = o1 .before .struct-told2 .given in
     let f : SFits w32 (o1 .before .before .before .before .before .before .before .before .args .given .lambda) = record { sfits = told .1 .1 .1 .1 .1 .1 .1 .1 .1 .1 .1 .0 .1 } in
     let g : SFits w32 (o1 .before .before .before .before .before .before .before .before .args .given .flags) = record { sfits = told .1 .1 .1 .1 .1 .1 .1 .1 .1 .1 .1 .1 .0 .1 } in
-    two-hold
-    (two-hold
+    both-alike
+    (both-alike
     (five-hold (o1 .offset-fits .ensures) (o2 .offset-fits2 .ensures) (o3 .offset-fits3 .ensures) (o4 .offset-fits4 .ensures) (o5 .offset-fits5 .ensures))
     (five-hold (p1 .pair-fits .ensures) (p2 .pair-fits2 .ensures) (p3 .pair-fits3 .ensures) (p4 .pair-fits4 .ensures) (p5 .pair-fits5 .ensures)))
     (simp toZ-ofZ at (c .last-fits .ensures))

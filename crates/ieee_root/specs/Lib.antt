@@ -1,0 +1,5 @@
+pub mod SquareRoot
+pub mod Fractions
+pub mod WholePart
+pub mod Nearest
+pub mod RustRoot

@@ -1,0 +1,4 @@
+pub mod Diagonal
+pub mod Score
+pub mod Bounds
+pub mod Examples
