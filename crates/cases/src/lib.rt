@@ -1,9 +1,11 @@
 // Test vectors: a line for each case, whole numbers in it, the inputs left of an `=` and the
 // answers right of it. A line that begins with # is no case.
 
+ghost use mathlib.Core.Path.{_≡_};
 ghost use Prim.Native.Nat.{_≤_, _<_};
 ghost use lib.ListN.{length};
 ghost use Rattle.cases.specs.Places.{Past, Tells};
+ghost use Rattle.cases.specs.Tallies.{talliedBy};
 
 // What is known of a line on the way through it.
 pub struct Case {
@@ -128,4 +130,53 @@ pub fn is(number: i64, value: i32) -> bool
     ensures { λ r. ⌜ Tells r number value ⌝ }
 {
     number == value as i64
+}
+
+// How many lines were read, how many of them are cases, and how many of these differ.
+pub struct Tally {
+    pub lines: u64,
+    pub cases: u64,
+    pub differ: u64,
+}
+
+pub fn no_lines() -> Tally
+    ensures { λ r. ⌜ (r .lines ≡ 0) × (r .cases ≡ 0) × (r .differ ≡ 0) ⌝ }
+{
+    Tally {
+        lines: 0,
+        cases: 0,
+        differ: 0,
+    }
+}
+
+// The tally after one line more, which is a case where it has inputs. A case that differs is named.
+pub fn tallied(tally: Tally, inputs: usize, agrees: bool) -> Tally
+    ensures { λ r. ⌜ r ≡ talliedBy tally inputs agrees ⌝ }
+{
+    let lines = std::num::wrapping_add_u64(tally.lines, 1);
+    let cases = tally.cases;
+    let differ = tally.differ;
+    if inputs == 0 {
+        return Tally {
+            lines: lines,
+            cases: cases,
+            differ: differ,
+        };
+    }
+    let more = std::num::wrapping_add_u64(cases, 1);
+    if agrees {
+        return Tally {
+            lines: lines,
+            cases: more,
+            differ: differ,
+        };
+    }
+    io::write_all(1, b"differs: line ");
+    io::print_decimal(1, lines);
+    io::write_all(1, b"\n");
+    Tally {
+        lines: lines,
+        cases: more,
+        differ: std::num::wrapping_add_u64(differ, 1),
+    }
 }

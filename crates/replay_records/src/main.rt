@@ -1,5 +1,6 @@
 // Replays pairs and records that the Rust was asked about, and compares. A case's kind is told by
 // its number of inputs: a word to unpack, a pair to pack, 12 words to unpack, 18 values to pack.
+use cases::Tally;
 use records::Offset;
 use records::Packed;
 use records::PackedPair;
@@ -157,44 +158,14 @@ fn agrees(numbers: &[i64; 64], inputs: usize, count: usize) -> bool {
     false
 }
 
-struct Tally {
-    lines: u64,
-    cases: u64,
-    differ: u64,
-}
-
-fn report(line: u64) {
-    io::write_all(1, b"differs: line ");
-    io::print_decimal(1, line);
-    io::write_all(1, b"\n");
-}
-
-fn counted(tally: Tally, numbers: &[i64; 64], inputs: usize, count: usize) -> Tally {
-    let mut next = tally;
-    next.lines = std::num::wrapping_add_u64(tally.lines, 1);
-    if inputs == 0 {
-        return next;
-    }
-    next.cases = std::num::wrapping_add_u64(tally.cases, 1);
-    if agrees(numbers, inputs, count) {
-        return next;
-    }
-    report(next.lines);
-    next.differ = std::num::wrapping_add_u64(tally.differ, 1);
-    next
-}
-
 fn replay(text: &[u8]) -> Tally {
     let mut numbers = [0i64; 64];
-    let mut tally = Tally {
-        lines: 0,
-        cases: 0,
-        differ: 0,
-    };
+    let mut tally = cases::no_lines();
     let mut at: usize = 0;
     while at < text.len() {
         let read = cases::next_line(text, at, &mut numbers);
-        tally = counted(tally, &numbers, read.inputs, read.count);
+        let same = agrees(&numbers, read.inputs, read.count);
+        tally = cases::tallied(tally, read.inputs, same);
         at = read.next;
     }
     tally
