@@ -1,0 +1,2 @@
+pub mod PackedScore
+pub mod PackedScoreLaws

@@ -1,0 +1,21 @@
+/* Counting of what held, for the files of the host. */
+#ifndef EXPECT_H
+#define EXPECT_H
+#include <stddef.h>
+#include <stdint.h>
+
+int printf(const char *format, ...);
+int memcmp(const void *a, const void *b, size_t n);
+void *memcpy(void *to, const void *from, size_t n);
+void *memset(void *to, int byte, size_t n);
+
+/* One check: what is asked, and whether it held. */
+void expect(int held, const char *asked, long a, long b);
+
+/* The answer's number, and what is lent afterwards: value in the first four bytes where number is 0, else as it was. */
+void expect_answer(const char *asked, uint32_t number, uint32_t answered, uint32_t value, const uint8_t *before,
+                   const uint8_t *after, size_t length);
+
+void packed_score_tests(void);
+
+#endif
