@@ -1,0 +1,66 @@
+-- What the proofs of a tile's code share: rows and tiles that are alike, and how large the numbers of a turned one get. Assumes nothing.
+use mathlib.Core.Path.{_≡_, ap, _∙_}
+use Prim.Native.Nat.{ℕ, _+_, _≤_}
+use native.Mathlib.Omega.{arith}
+use lib.IntN.{ℤ, natAbs}
+use mir.Facts.{toZ-ofZ}
+use mir.Syntax.{w16}
+use mir.Val.{toZ, ofZ}
+use Rattle.whole.specs.Interval.{Within, within-add, within-sub, Is, is-arg, fits}
+use Rattle.distance.specs.declared.Quad.{Quad}
+use Rattle.distance.specs.declared.Tile.{Tile}
+use Rattle.distance.specs.Distance.{sum}
+use Rattle.distance.specs.Absolute.{abs-small}
+use Rattle.distance.specs.Parts.{Small, SmallRows, turned, rowsTurned, flipped, rowPlain}
+
+pub quads-alike : {a b c d a′ b′ c′ d′ : ℤ} → a ≡ a′ → b ≡ b′ → c ≡ c′ → d ≡ d′ → _≡_ {A = Quad} (record { a = a; b = b; c = c; d = d }) (record { a = a′; b = b′; c = c′; d = d′ })
+quads-alike e f g h = cc
+
+pub tiles-alike : {a b c d a′ b′ c′ d′ : Quad} → a ≡ a′ → b ≡ b′ → c ≡ c′ → d ≡ d′ → _≡_ {A = Tile} (record { a = a; b = b; c = c; d = d }) (record { a = a′; b = b′; c = c′; d = d′ })
+tiles-alike e f g h = cc
+
+-- ---- ranges
+pub small-turned : {n : ℕ} {q : Quad} → Small n q → Small ((n + n) + (n + n)) (turned q)
+small-turned s =
+    let s0 = within-add (s .at-a) (s .at-b) in
+    let s1 = within-add (s .at-c) (s .at-d) in
+    let d0 = within-sub (s .at-a) (s .at-b) in
+    let d1 = within-sub (s .at-c) (s .at-d) in
+    record { at-a = within-add s0 s1; at-b = within-sub s0 s1; at-c = within-add d0 d1; at-d = within-sub d0 d1 }
+
+pub rows-turned : {n : ℕ} {t : Tile} → SmallRows n t → SmallRows ((n + n) + (n + n)) (rowsTurned t)
+rows-turned s = record { in-a = small-turned (s .in-a); in-b = small-turned (s .in-b); in-c = small-turned (s .in-c); in-d = small-turned (s .in-d) }
+
+pub rows-flipped : {n : ℕ} {t : Tile} → SmallRows n t → SmallRows n (flipped t)
+rows-flipped s =
+    record { in-a = record { at-a = s .in-a .at-a; at-b = s .in-b .at-a; at-c = s .in-c .at-a; at-d = s .in-d .at-a }; in-b = record { at-a = s .in-a .at-b; at-b = s .in-b .at-b; at-c = s .in-c .at-b; at-d = s .in-d .at-b }; in-c = record { at-a = s .in-a .at-c; at-b = s .in-b .at-c; at-c = s .in-c .at-c; at-d = s .in-d .at-c }; in-d = record { at-a = s .in-a .at-d; at-b = s .in-b .at-d; at-c = s .in-c .at-d; at-d = s .in-d .at-d } }
+
+pub plain-small : {q : Quad} → Small 4080 q → rowPlain q ≤ 16320
+unfolding sum
+plain-small s = omega (arith, abs-small (s .at-a), abs-small (s .at-b), abs-small (s .at-c), abs-small (s .at-d))
+
+-- ---- what `mag` answers of a number that the machine reads
+pub record Size (r : ℕ) (z : ℤ) : Type 0 where
+  pub same : r ≡ natAbs z
+  pub below : r ≤ 4080
+
+pub size : {r : ℕ} {z : ℤ} → Within 4080 4080 z → r ≡ natAbs (toZ w16 (ofZ w16 z)) → Size r z
+size {r} {z} p e =
+    let same : r ≡ natAbs z = e ∙ ap natAbs (toZ-ofZ (fits p tt tt)) in record { same = same; below = omega (arith, abs-small p) }
+
+-- ---- what the machine reads of a row, and what the butterflies make of it
+module _ {q : Quad} (s : Small 1020 q) where
+  number : {z : ℤ} → Within 1020 1020 z → Is w16 1020 1020 (toZ w16 (ofZ w16 z)) z
+  number p = is-arg (fits p tt tt) p
+
+  pub a-is : Is w16 1020 1020 (toZ w16 (ofZ w16 (q .a))) (q .a)
+  a-is = number (s .at-a)
+
+  pub b-is : Is w16 1020 1020 (toZ w16 (ofZ w16 (q .b))) (q .b)
+  b-is = number (s .at-b)
+
+  pub c-is : Is w16 1020 1020 (toZ w16 (ofZ w16 (q .c))) (q .c)
+  c-is = number (s .at-c)
+
+  pub d-is : Is w16 1020 1020 (toZ w16 (ofZ w16 (q .d))) (q .d)
+  d-is = number (s .at-d)

@@ -1,0 +1,9 @@
+pub mod Distance
+pub mod Examples
+pub mod Laws
+pub mod Views
+pub mod Hadamard
+pub mod Absolute
+pub mod Sums
+pub mod Parts
+pub mod Butterflies

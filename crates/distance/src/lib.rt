@@ -1,0 +1,294 @@
+// SAD and SATD of two blocks of bytes, and the cost that is one of the two. The rows of a block in
+// the slice a start ap bytes apart, those of the block in b start bp apart.
+
+ghost use mathlib.Core.Path.{_≡_};
+ghost use Prim.Native.Nat.{_+_, _*_, _≤_};
+ghost use lib.IntN.{pos, _-ℤ_, natAbs};
+ghost use lib.ListN.{length};
+ghost use Rattle.whole.specs.Interval.{Within};
+ghost use Rattle.distance.specs.Distance.{Given, blockOf, gap, sad, satd, tileSum, costOf};
+ghost use Rattle.distance.specs.Hadamard.{plain};
+ghost use Rattle.distance.specs.Parts.{gaps, Small, SmallRows, turned, rowsTurned, flipped, rowPlain, entry, rowLess, tileLess, tilesLess};
+
+// The branch on bytes becomes one instruction for sixteen of them.
+fn apart(a: u8, b: u8) -> u32
+    ensures { λ r. ⌜ r ≡ gap a b ⌝ }
+{
+    if a < b {
+        (b - a) as u32
+    } else {
+        (a - b) as u32
+    }
+}
+
+// Two rows of one length.
+fn row(a: &[u8], b: &[u8]) -> u32
+    requires { ⌜ (length (now a) ≤ 16) × (length (now b) ≡ length (now a)) ⌝ }
+    ensures { λ r. ⌜ r ≡ gaps (length (now (a .entry))) (now (a .entry)) (now (b .entry)) ⌝ }
+{
+    let mut total: u32 = 0;
+    for x in 0..a.len() {
+        total += apart(a[x], b[x]);
+    }
+    total
+}
+
+// A call with literal sides gets a copy of its own, with the loops laid out.
+fn sad_of(w: usize, h: usize, a: &[u8], ap: usize, b: &[u8], bp: usize) -> u32
+    requires { ⌜ Given w h (now a) ap (now b) bp ⌝ }
+    ensures { λ r. ⌜ r ≡ sad w h (blockOf (now (a .entry)) ap) (blockOf (now (b .entry)) bp) ⌝ }
+{
+    let mut total: u32 = 0;
+    for y in 0..h {
+        let i = y * ap;
+        let k = y * bp;
+        let ie = i + w;
+        let ke = k + w;
+        total += row(&a[i..ie], &b[k..ke]);
+    }
+    total
+}
+
+// Four numbers of a tile's row, and four rows. Every Hadamard value of bytes fits an i16, and eight
+// of these go into one register.
+struct Quad {
+    a: i16,
+    b: i16,
+    c: i16,
+    d: i16,
+}
+
+struct Tile {
+    a: Quad,
+    b: Quad,
+    c: Quad,
+    d: Quad,
+}
+
+fn less(a: u8, b: u8) -> i16
+    ensures { λ r. ⌜ r ≡ pos a -ℤ pos b ⌝ }
+{
+    (a as i16) - (b as i16)
+}
+
+// The differences of the four samples from i in a and from k in b.
+fn quad_at(a: &[u8], i: usize, b: &[u8], k: usize) -> Quad
+    requires { ⌜ (i + 4 ≤ length (now a)) × (k + 4 ≤ length (now b)) ⌝ }
+    ensures { λ r. ⌜ r ≡ rowLess (now (a .entry)) i (now (b .entry)) k ⌝ }
+{
+    Quad {
+        a: less(a[i], b[k]),
+        b: less(a[i + 1], b[k + 1]),
+        c: less(a[i + 2], b[k + 2]),
+        d: less(a[i + 3], b[k + 3]),
+    }
+}
+
+// The four values of a row, by butterflies.
+fn turn(q: Quad) -> Quad
+    requires { ⌜ Small 1020 q ⌝ }
+    ensures { λ r. ⌜ r ≡ turned q ⌝ }
+{
+    let a = q.a;
+    let b = q.b;
+    let c = q.c;
+    let d = q.d;
+    let s0 = a + b;
+    let s1 = c + d;
+    let d0 = a - b;
+    let d1 = c - d;
+    Quad {
+        a: s0 + s1,
+        b: s0 - s1,
+        c: d0 + d1,
+        d: d0 - d1,
+    }
+}
+
+fn turn_rows(t: Tile) -> Tile
+    requires { ⌜ SmallRows 1020 t ⌝ }
+    ensures { λ r. ⌜ r ≡ rowsTurned t ⌝ }
+{
+    let a = t.a;
+    let b = t.b;
+    let c = t.c;
+    let d = t.d;
+    Tile {
+        a: turn(a),
+        b: turn(b),
+        c: turn(c),
+        d: turn(d),
+    }
+}
+
+// Rows become columns.
+fn across(t: Tile) -> Tile
+    ensures { λ r. ⌜ r ≡ flipped t ⌝ }
+{
+    let p = t.a;
+    let q = t.b;
+    let r = t.c;
+    let s = t.d;
+    let a = Quad {
+        a: p.a,
+        b: q.a,
+        c: r.a,
+        d: s.a,
+    };
+    let b = Quad {
+        a: p.b,
+        b: q.b,
+        c: r.b,
+        d: s.b,
+    };
+    let c = Quad {
+        a: p.c,
+        b: q.c,
+        c: r.c,
+        d: s.c,
+    };
+    let d = Quad {
+        a: p.d,
+        b: q.d,
+        c: r.d,
+        d: s.d,
+    };
+    Tile {
+        a: a,
+        b: b,
+        c: c,
+        d: d,
+    }
+}
+
+fn mag(z: i16) -> u16
+    requires { ⌜ Within 4080 4080 z ⌝ }
+    ensures { λ r. ⌜ r ≡ natAbs z ⌝ }
+{
+    if z < 0 { (0 - z) as u16 } else { z as u16 }
+}
+
+fn row_weight(q: Quad) -> u16
+    requires { ⌜ Small 4080 q ⌝ }
+    ensures { λ r. ⌜ r ≡ rowPlain q ⌝ }
+{
+    let a = q.a;
+    let b = q.b;
+    let c = q.c;
+    let d = q.d;
+    mag(a) + mag(b) + mag(c) + mag(d)
+}
+
+fn weight(t: Tile) -> u16
+    requires { ⌜ SmallRows 4080 t ⌝ }
+    ensures { λ r. ⌜ r ≡ plain (entry t) ⌝ }
+{
+    let a = t.a;
+    let b = t.b;
+    let c = t.c;
+    let d = t.d;
+    row_weight(a) + row_weight(b) + row_weight(c) + row_weight(d)
+}
+
+// The sixteen absolute Hadamard values of a tile of differences: rows first, then columns. Before
+// the sum the tile is turned back, so that equal steps stand side by side.
+fn hadamard(t: Tile) -> u32
+    requires { ⌜ SmallRows 255 t ⌝ }
+    ensures { λ r. ⌜ r ≡ tileSum (entry t) ⌝ }
+{
+    let rows = turn_rows(t);
+    let columns = turn_rows(across(rows));
+    weight(across(columns)) as u32
+}
+
+// The tile that starts at i in a and at k in b.
+fn tile_at(a: &[u8], i: usize, ap: usize, b: &[u8], k: usize, bp: usize) -> u32
+    requires { ⌜ (i + 3 * ap + 4 ≤ length (now a)) × (k + 3 * bp + 4 ≤ length (now b)) ⌝ }
+    ensures { λ r. ⌜ r ≡ tileSum (tileLess (now (a .entry)) i ap (now (b .entry)) k bp) ⌝ }
+{
+    let i1 = i + ap;
+    let i2 = i1 + ap;
+    let i3 = i2 + ap;
+    let k1 = k + bp;
+    let k2 = k1 + bp;
+    let k3 = k2 + bp;
+    let p = quad_at(a, i, b, k);
+    let q = quad_at(a, i1, b, k1);
+    let r = quad_at(a, i2, b, k2);
+    let s = quad_at(a, i3, b, k3);
+    hadamard(Tile {
+        a: p,
+        b: q,
+        c: r,
+        d: s,
+    })
+}
+
+// A row of m tiles.
+fn tiles_at(a: &[u8], i: usize, ap: usize, b: &[u8], k: usize, bp: usize, m: usize) -> u32
+    requires { ⌜ (m ≤ 4) × ((i + 3 * ap + 4 * m ≤ length (now a)) × (k + 3 * bp + 4 * m ≤ length (now b))) ⌝ }
+    ensures { λ r. ⌜ r ≡ tilesLess m (now (a .entry)) i ap (now (b .entry)) k bp ⌝ }
+{
+    let mut total: u32 = 0;
+    for j in 0..m {
+        total += tile_at(a, i + 4 * j, ap, b, k + 4 * j, bp);
+    }
+    total
+}
+
+// Halved once, at the end.
+fn satd_of(w: usize, h: usize, a: &[u8], ap: usize, b: &[u8], bp: usize) -> u32
+    requires { ⌜ Given w h (now a) ap (now b) bp ⌝ }
+    ensures { λ r. ⌜ r ≡ satd w h (blockOf (now (a .entry)) ap) (blockOf (now (b .entry)) bp) ⌝ }
+{
+    let m = w / 4;
+    let n = h / 4;
+    let mut total: u32 = 0;
+    for i in 0..n {
+        total += tiles_at(a, 4 * i * ap, ap, b, 4 * i * bp, bp, m);
+    }
+    total / 2
+}
+
+// SAD with literal sides for 01's five sizes.
+fn sad_by_size(w: usize, h: usize, a: &[u8], ap: usize, b: &[u8], bp: usize) -> u32
+    requires { ⌜ Given w h (now a) ap (now b) bp ⌝ }
+    ensures { λ r. ⌜ r ≡ sad w h (blockOf (now (a .entry)) ap) (blockOf (now (b .entry)) bp) ⌝ }
+{
+    if w == 16 {
+        if h == 16 {
+            return sad_of(16, 16, a, ap, b, bp);
+        }
+        if h == 8 {
+            return sad_of(16, 8, a, ap, b, bp);
+        }
+        return sad_of(16, h, a, ap, b, bp);
+    }
+    if w == 8 {
+        if h == 8 {
+            return sad_of(8, 8, a, ap, b, bp);
+        }
+        if h == 4 {
+            return sad_of(8, 4, a, ap, b, bp);
+        }
+        return sad_of(8, h, a, ap, b, bp);
+    }
+    if w == 4 {
+        if h == 4 {
+            return sad_of(4, 4, a, ap, b, bp);
+        }
+        return sad_of(4, h, a, ap, b, bp);
+    }
+    sad_of(w, h, a, ap, b, bp)
+}
+
+// The measure asked for: SATD, or else SAD.
+pub fn cost(measure: bool, w: usize, h: usize, a: &[u8], ap: usize, b: &[u8], bp: usize) -> u32
+    requires { ⌜ Given w h (now a) ap (now b) bp ⌝ }
+    ensures { λ r. ⌜ r ≡ costOf measure w h (blockOf (now (a .entry)) ap) (blockOf (now (b .entry)) bp) ⌝ }
+{
+    if measure {
+        return satd_of(w, h, a, ap, b, bp);
+    }
+    sad_by_size(w, h, a, ap, b, bp)
+}
