@@ -16,6 +16,7 @@ void expect(int held, const char *asked, long a, long b);
 void expect_answer(const char *asked, uint32_t number, uint32_t answered, uint32_t value, const uint8_t *before,
                    const uint8_t *after, size_t length);
 
+void block_cost_tests(void);
 void packed_score_tests(void);
 
 #endif

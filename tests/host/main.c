@@ -25,6 +25,7 @@ void expect_answer(const char *asked, uint32_t number, uint32_t answered, uint32
 }
 
 int main(void) {
+    block_cost_tests();
     packed_score_tests();
     printf("%d passed, %d failed\n", passed, failed);
     return failed != 0;

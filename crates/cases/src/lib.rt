@@ -5,6 +5,7 @@ ghost use mathlib.Core.Path.{_≡_};
 ghost use Prim.Native.Nat.{_≤_, _<_};
 ghost use lib.ListN.{length};
 ghost use Rattle.cases.specs.Places.{Past, Tells};
+ghost use Rattle.cases.specs.Samples.{byteOf};
 ghost use Rattle.cases.specs.Tallies.{talliedBy};
 
 // What is known of a line on the way through it.
@@ -123,6 +124,19 @@ pub fn next_line(text: &[u8], at: usize, numbers: &mut [i64]) -> Line
         count: done.count,
         next: next,
     }
+}
+
+// A sample: a number from 0 to 255, or 0 for another.
+pub fn byte(number: i64) -> u8
+    ensures { λ r. ⌜ r ≡ byteOf number ⌝ }
+{
+    if number < 0 {
+        return 0;
+    }
+    if 255 < number {
+        return 0;
+    }
+    number as u8
 }
 
 // A vector's number against a value of 32 bits.

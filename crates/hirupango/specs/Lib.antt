@@ -1,2 +1,4 @@
 pub mod PackedScore
 pub mod PackedScoreLaws
+pub mod BlockCost
+pub mod BlockCostLaws

@@ -1,14 +1,14 @@
 -- What the limits leave of the numbers on the way to a diagonal and a score. Laws that the proofs cite. Assumes nothing.
-use mathlib.Core.Path.{_≡_, refl}
-use mathlib.Core.Bool.{Bool, true, false, _||_}
-use mathlib.Core.Logic.{_⊎_, inl, inr, ⊎-elim}
+use mathlib.Core.Path.{_≡_}
+use mathlib.Core.Bool.{true}
+use mathlib.Core.Logic.{⊎-elim}
 use Prim.Native.Nat.{ℕ, _+_, _*_, _/_, _^_, _≤_, _<_}
 use native.Mathlib.Nat.{lt-of-not-le, mul-le-mul, div-le-self, le-trans}
 use native.Mathlib.Omega.{arith}
 use lib.IntN.{ℤ, pos, negsuc, natAbs}
 use Rattle.whole.specs.Numbers.{liesIn, rootOf}
 use Rattle.whole.specs.Signed.{P, N, signed, abs-is}
-use Rattle.whole.specs.Truth.{lies-low, lies-high}
+use Rattle.whole.specs.Truth.{either-of, lies-low, lies-high}
 use Rattle.whole.specs.Interval.{Within}
 use Rattle.whole.specs.Root.{root-is}
 use Rattle.limits.specs.Limits.{isFrameSide, isPel, isComponent}
@@ -49,13 +49,9 @@ root-small n h =
     omega arith
 
 -- ---- pel
-either-true : (a b : Bool) → (a || b) ≡ true → (a ≡ true) ⊎ (b ≡ true)
-either-true true b e = inl refl
-either-true false b e = inr e
-
 pub pel-within : (z : ℤ) → isPel z ≡ true → Within 0 4 z
 pel-within z e =
     ⊎-elim
     (λ h. let l = lies-low (pos 1) (pos 2) z h in let k = lies-high (pos 1) (pos 2) z h in omega signed)
     (λ h. let l = lies-low (pos 4) (pos 4) z h in let k = lies-high (pos 4) (pos 4) z h in omega signed)
-    (either-true (liesIn (pos 1) (pos 2) z) (liesIn (pos 4) (pos 4) z) e)
+    (either-of (liesIn (pos 1) (pos 2) z) (liesIn (pos 4) (pos 4) z) e)

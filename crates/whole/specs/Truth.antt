@@ -1,6 +1,7 @@
--- Tests joined by `&&`, and ranges: what one that holds says of its parts. Assumes nothing.
+-- Tests joined by `&&` and `||`, and ranges: what one that holds says of its parts. Assumes nothing.
 use mathlib.Core.Path.{_≡_, refl}
 use mathlib.Core.Bool.{Bool, true, false, _&&_, _||_}
+use mathlib.Core.Logic.{_⊎_, inl, inr}
 use lib.IntN.{ℤ}
 use lib.Signed.{leZ}
 use Rattle.whole.specs.Numbers.{liesIn}
@@ -13,6 +14,10 @@ left-of false b e = e
 pub right-of : (a b : Bool) → (a && b) ≡ true → b ≡ true
 right-of true b e = e
 right-of false b e = absurd (holds e)
+
+pub either-of : (a b : Bool) → (a || b) ≡ true → (a ≡ true) ⊎ (b ≡ true)
+either-of true b e = inl refl
+either-of false b e = inr e
 
 -- joined tests are alike where their parts are
 pub both-alike : {a b A B : Bool} → a ≡ A → b ≡ B → (a && b) ≡ (A && B)

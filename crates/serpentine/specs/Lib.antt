@@ -1,0 +1,11 @@
+pub mod Walk
+pub mod Answers
+pub mod Pieces
+pub mod Rule
+pub mod Standing
+pub mod Sizes
+pub mod Walked
+pub mod Filling
+pub mod Served
+pub mod Entries
+pub mod Examples
