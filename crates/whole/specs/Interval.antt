@@ -1,16 +1,17 @@
 -- Numbers in an interval. `Within l h z` says that z lies from -l to h, and the laws carry that through the operations: the bounds
 -- compute, so that a chain of steps asks nothing of `omega`. `Is` ties what the machine reads of a local to the number meant. Assumes nothing.
 use mathlib.Core.Path.{_≡_, refl, sym, ap, subst, _∙_}
+use mathlib.Core.Bool.{Bool, true, false, cond}
 use Prim.Native.Nat.{ℕ, zero, suc, _+_, _-_, _*_, _/_, _^_, _≤_, _<_}
 use native.Mathlib.Nat.{mul-le-mul, mul-le-mul-right, div-le-self}
 use native.Mathlib.Omega.{arith}
 use lib.Dec.{T, ltb, leb, ltb→lt, leb→le}
 use lib.IntN.{ℤ, pos, negsuc, _+ℤ_, _-ℤ_, _*ℤ_, negℤ, natAbs}
-use lib.Signed.{_≤ℤ_, quotZ, shrZ, nonNeg}
+use lib.Signed.{mag, _≤ℤ_, quotZ, shrZ, nonNeg}
 use mir.Syntax.{Width, w16, w32, w64}
 use mir.Val.{SFits, Fits, toZ, ofZ, bits, hbits}
 use mir.Facts.{toZ-ofZ}
-use Rattle.whole.specs.Signed.{P, N, signed, range, fit, add-is, diff-is, times-is, nonneg-of, abs-is}
+use Rattle.whole.specs.Signed.{P, N, signed, range, fit, add-is, diff-is, times-is, nonneg-of, abs-is, got}
 use Rattle.whole.specs.Floor.{quot-P, quot-N}
 
 pub record Within (l h : ℕ) (z : ℤ) : Type 0 where
@@ -54,6 +55,11 @@ pub within-quot : {l h : ℕ} {x : ℤ} (m : ℕ) → Within l h x → Within l 
 within-quot {x = pos a} m p = omega (arith, quot-P (pos a) m, quot-N (pos a) m, div-le-self a m, div-le-self 0 m)
 within-quot {x = negsuc a} m p = omega (arith, quot-P (negsuc a) m, quot-N (negsuc a) m, div-le-self (suc a) m, div-le-self 0 m)
 
+-- one of two, whichever a test picks: the lesser, the greater
+pub within-either : {l h : ℕ} {x y : ℤ} (t : Bool) → Within l h x → Within l h y → Within l h (cond t x y)
+within-either true p q = p
+within-either false p q = q
+
 -- a product of two, each in an interval about zero
 abs-neg : (n : ℕ) → natAbs (negℤ (pos n)) ≡ n
 abs-neg zero = refl
@@ -96,6 +102,17 @@ pub record Is (w : Width) (l h : ℕ) (X x : ℤ) : Type 0 where
 -- a parameter, a call's result or an element, whose number fits (`c .fits .x`)
 pub is-arg : {w : Width} {l h : ℕ} {x : ℤ} → SFits w x → Within l h x → Is w l h (toZ w (ofZ w x)) x
 is-arg f p = record { same = toZ-ofZ f; lies = p }
+
+-- a call's result, from what the call ensures of it: `is-call w32 (c .f .ok) (c .f .ensures) ..`
+pub is-call : (w : Width) {l h : ℕ} {z x : ℤ} → mag z < 2 ^ hbits w → z ≡ x → Within l h x → Is w l h (toZ w (ofZ w z)) x
+is-call w ok e p = record { same = got w ok e; lies = p }
+
+-- a number whose interval shows that it fits
+pub is-within : (w : Width) {l h : ℕ} {x : ℤ} → Within l h x → T (leb l (2 ^ hbits w)) → T (ltb h (2 ^ hbits w)) → Is w l h (toZ w (ofZ w x)) x
+is-within w p t u = is-arg (fits p t u) p
+
+pub is-wider : {w : Width} {l h l′ h′ : ℕ} {X x : ℤ} → Is w l h X x → T (leb l l′) → T (leb h h′) → Is w l′ h′ X x
+is-wider p t u = record { same = p .same; lies = within-more (p .lies) t u }
 
 pub is-literal : (w : Width) (z : ℤ) → Is w (N z) (P z) z z
 is-literal w z = record { same = refl; lies = within-literal }

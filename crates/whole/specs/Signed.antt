@@ -13,6 +13,7 @@ use borrow.Author.Tests.{ltb-true, ltb-false, leb-false}
 use mir.Syntax.{Width}
 use mir.Val.{SFits, Fits, toZ, ofZ, bits, hbits}
 use mir.Facts.{toZ-ofZ}
+use Rattle.whole.specs.Numbers.{lesserOf, greaterOf}
 
 -- how far z lies above zero, and how far below
 abbrev pub P : ℤ → ℕ
@@ -185,6 +186,13 @@ picked-first w y e f = rw e (toZ-ofZ f)
 
 pub picked-second : (w : Width) (x : ℤ) {y : ℤ} {t : Bool} → t ≡ false → SFits w y → toZ w (ofZ w y) ≡ cond t x y
 picked-second w x e f = rw e (toZ-ofZ f)
+
+-- what a call of the lesser or the greater of two gives, of what the machine reads
+pub lesser-read : {X x Y y r : ℤ} → r ≡ lesserOf X Y → X ≡ x → Y ≡ y → r ≡ lesserOf x y
+lesser-read e p q = cc
+
+pub greater-read : {X x Y y r : ℤ} → r ≡ greaterOf X Y → X ≡ x → Y ≡ y → r ≡ greaterOf x y
+greater-read e p q = cc
 
 -- ---- a signed number as an unsigned one
 pub nonneg-of : (z : ℤ) → N z ≤ P z → T (nonNeg z)
