@@ -1,7 +1,17 @@
 -- 01, "Numbers accepted", one definition for each kind of number. Definitions alone.
-use mathlib.Core.Bool.{Bool, _||_}
+use mathlib.Core.Bool.{Bool, _&&_, _||_}
+use Prim.Native.Nat.{ℕ}
+use lib.Dec.{leb}
 use lib.IntN.{ℤ, pos, negsuc}
 use Rattle.whole.specs.Numbers.{liesIn}
+
+-- "Grid sides 2 to 2,048"
+abbrev pub isGridSide : ℤ → Bool
+isGridSide side = liesIn (pos 2) (pos 2048) side
+
+-- "Steps 1 up to the block's side"
+abbrev pub isStep : ℤ → ℤ → Bool
+isStep side step = liesIn (pos 1) side step
 
 -- "Frame sides 2 to 16,384"
 abbrev pub isFrameSide : ℤ → Bool
@@ -10,6 +20,21 @@ isFrameSide side = liesIn (pos 2) (pos 16384) side
 -- "Pel 1, 2 or 4"
 abbrev pub isPel : ℤ → Bool
 isPel pel = liesIn (pos 1) (pos 2) pel || liesIn (pos 4) (pos 4) pel
+
+-- "Chroma shifts (0,0), (1,0) or (1,1)": x is 0 or 1, and y at most x
+abbrev pub areShifts : ℤ → ℤ → Bool
+areShifts x y = liesIn (pos 0) (pos 1) x && liesIn (pos 0) x y
+
+-- "Pitch from the plane's width to 65,536"
+abbrev pub isPitch : ℤ → ℤ → Bool
+isPitch width pitch = liesIn width (pos 65536) pitch
+
+-- "A plane's data are at most 1,073,741,823 bytes"
+abbrev pub greatestLength : ℕ
+greatestLength = 1073741823
+
+abbrev pub isLength : ℕ → Bool
+isLength length = leb length greatestLength
 
 -- "Vector components fit i16"
 abbrev pub isComponent : ℤ → Bool

@@ -1,0 +1,43 @@
+-- What the machine reads of a number that was cast, of a call's answer and of a masked number, in the form of whole's `Is`. Assumes nothing.
+use mathlib.Core.Path.{_≡_, refl}
+use mathlib.Core.Bool.{true}
+use Prim.Native.Nat.{ℕ, _^_, _≤_, _<_}
+use native.Mathlib.Omega.{arith}
+use lib.Dec.{T, ltb, leb, ltb→lt, lit≤}
+use lib.Bits.{bitAnd}
+use lib.IntN.{ℤ, pos, _-ℤ_, natAbs}
+use lib.Signed.{mag}
+use mir.Syntax.{Width, w32, w64}
+use mir.Val.{SFits, toZ, ofZ, hbits}
+use mir.Facts.{toZ-pos}
+use Rattle.whole.specs.Numbers.{modZ}
+use Rattle.whole.specs.Signed.{got}
+use Rattle.whole.specs.Interval.{Within, within-more, Is}
+use Rattle.whole.specs.Wrapping.{masked}
+use Rattle.limits.specs.Limits.{isPel}
+use Rattle.plane.specs.Offsets.{at-each-pel}
+
+-- a number kept in 64 bits, and read back
+abbrev pub kept : ℤ → ℤ
+kept z = toZ w64 (ofZ w64 z)
+
+-- the same number, in a wider interval
+pub is-more : {w : Width} {l h l′ h′ : ℕ} {X x : ℤ} → Is w l h X x → T (leb l l′) → T (leb h h′) → Is w l′ h′ X x
+is-more p t u = record { same = p .same; lies = within-more (p .lies) t u }
+
+-- an unsigned number, cast to a signed width
+pub is-natural : {w : Width} {n : ℕ} (h : ℕ) → n ≤ h → T (ltb h (2 ^ hbits w)) → Is w h h (toZ w n) (pos n)
+is-natural {w} h l t = record { same = toZ-pos w (omega (arith, ltb→lt h (2 ^ hbits w) t)); lies = omega arith }
+
+-- a call's answer
+pub is-answer : {w : Width} {l h : ℕ} {z y : ℤ} → mag z < 2 ^ hbits w → z ≡ y → Within l h y → Is w l h (toZ w (ofZ w z)) y
+is-answer {w} small e lies = record { same = got w small e; lies = lies }
+
+-- a mask of pel - 1 leaves the remainder by pel
+pub masked-by-pel : {x : ℤ} → SFits w32 x → (pel : ℤ) → isPel pel ≡ true → toZ w32 (bitAnd (ofZ w32 x) (ofZ w32 (pel -ℤ pos 1))) ≡ pos (modZ x (natAbs pel))
+masked-by-pel {x} f pel e =
+    at-each-pel (λ (k : ℤ). toZ w32 (bitAnd (ofZ w32 x) (ofZ w32 (k -ℤ pos 1))) ≡ pos (modZ x (natAbs k)))
+    (masked w32 0 4294967296 refl (lit≤ tt) f)
+    (masked w32 1 2147483648 refl (lit≤ tt) f)
+    (masked w32 2 1073741824 refl (lit≤ tt) f)
+    pel e
