@@ -2,7 +2,7 @@
 
 use crate::lines::{Fault, Numbers, Work};
 use crate::random::Random;
-use crate::{choose, cost, evaluate, finish, packing, plan, planes, score, serpentine};
+use crate::{block, choose, cost, evaluate, finish, packing, plan, planes, score, serpentine};
 
 pub(crate) struct Kind {
     pub(crate) name: &'static str,
@@ -11,7 +11,7 @@ pub(crate) struct Kind {
     pub(crate) limits: fn() -> Vec<Vec<i64>>,
 }
 
-pub(crate) const KINDS: [Kind; 15] = [
+pub(crate) const KINDS: [Kind; 16] = [
     packing::PAIR,
     packing::UNPAIR,
     packing::RECORD,
@@ -23,6 +23,7 @@ pub(crate) const KINDS: [Kind; 15] = [
     serpentine::BLOCK,
     serpentine::ORDER,
     planes::OFFSET,
+    block::BLOCK,
     plan::PLAN,
     evaluate::EVALUATE,
     choose::CHOOSE,

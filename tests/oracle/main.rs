@@ -9,6 +9,7 @@ mod analyse {
 #[path = "value.rs"]
 mod params;
 
+mod block;
 mod choose;
 mod choose_limits;
 mod cost;

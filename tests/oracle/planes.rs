@@ -40,7 +40,7 @@ impl Plane {
         [base, pitch, self.width.into(), self.height.into(), length]
     }
 
-    fn view<'a>(&self, data: &'a [u8], pel: i32) -> PlaneView<'a> {
+    pub(crate) fn view<'a>(&self, data: &'a [u8], pel: i32) -> PlaneView<'a> {
         PlaneView::new(data, self.base, self.pitch, self.width, self.height, pel)
     }
 

@@ -7,7 +7,7 @@ use Rattle.replay_plane.proofs.replay.Statement.{statement}
 use Rattle.replay_plane.proofs.replay.Tie as tie
 
 abbrev Inv-loop : tie.InvT-loop
-Inv-loop text numbers₀ tally₀ at₀ numbers tally at = length numbers ≡ 64
+Inv-loop text numbers₀ tally₀ at₀ numbers tally at = length numbers ≡ 800
 
 abbrev μ-loop : tie.MeasureT-loop
 μ-loop text numbers₀ tally₀ at₀ numbers tally at = length text - at

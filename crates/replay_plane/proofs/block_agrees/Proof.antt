@@ -1,0 +1,32 @@
+-- The first part of the bytes is as long as it is cut. Assumes nothing.
+use borrow.Author.Needs.{needs}
+use mathlib.Core.Path.{sym}
+use native.Mathlib.Omega.{arith}
+use lib.Seq.{length-take-le}
+use Rattle.replay_plane.proofs.block_agrees.Statement.{statement}
+use Rattle.replay_plane.proofs.block_agrees.Tie as tie
+
+slice-aggregate-block-at : tie.Need-slice-aggregate-block-at
+slice-aggregate-block-at c = sym (length-take-le _ _ (omega arith))
+
+pub block-agrees-spec : {M : Type 1} → statement M
+block-agrees-spec =
+    tie.close
+    (tie.spec
+    (λ c. search needs)
+    (λ c κs. search needs)
+    (λ c. search needs)
+    (λ c κs. search needs)
+    (λ c κs. search needs)
+    (λ c. search needs)
+    slice-aggregate-block-at
+    (λ c κs. search needs)
+    (λ c. search needs)
+    (λ c. search needs)
+    (λ c. search needs)
+    (λ c κs. search needs)
+    (λ c. search needs)
+    (λ c. search needs)
+    (λ c κs. search needs)
+    (λ c κs. search needs)
+    (λ c. search needs))
