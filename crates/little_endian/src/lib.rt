@@ -1,11 +1,11 @@
-// A word as four bytes, the lowest first.
+// A word as four bytes, the lowest first: written, and read.
 
 ghost use mathlib.Core.Path.{_≡_};
 ghost use mathlib.Core.List.{_++_};
-ghost use Prim.Native.Nat.{_≤_};
+ghost use Prim.Native.Nat.{_+_, _<_, _≤_};
 ghost use lib.ListN.{length, drop};
 ghost use Rattle.whole.specs.Numbers.{modZ};
-ghost use Rattle.little_endian.specs.Bytes.{bytesOf};
+ghost use Rattle.little_endian.specs.Bytes.{bytesOf, wordAt};
 
 fn low_byte(word: i32) -> u8
     ensures { λ r. ⌜ r ≡ modZ word 256 ⌝ }
@@ -22,4 +22,22 @@ pub fn put_word(out: &mut [u8], word: i32)
     out[1] = low_byte(word >> 8);
     out[2] = low_byte(word >> 16);
     out[3] = low_byte(word >> 24);
+}
+
+fn wide(byte: u8) -> u64
+    ensures { λ r. ⌜ (r ≡ byte) × (r < 256) ⌝ }
+{
+    byte as u64
+}
+
+// The word whose four bytes stand at a place.
+pub fn word_at(bytes: &[u8], at: usize) -> i32
+    requires { ⌜ at + 4 ≤ length (now bytes) ⌝ }
+    ensures { λ r. ⌜ r ≡ wordAt (now (bytes .entry)) at ⌝ }
+{
+    let a = wide(bytes[at]);
+    let b = wide(bytes[at + 1]);
+    let c = wide(bytes[at + 2]);
+    let d = wide(bytes[at + 3]);
+    whole::wrap32((a + 256 * b + 65536 * c + 16777216 * d) as i64)
 }

@@ -1,0 +1,27 @@
+-- Values put together of equal parts are equal. Each lemma is over plain variables, where `cc` sees at once what it would have to dig for at a place of the code.
+use mathlib.Core.Path.{_≡_}
+use mathlib.Core.Bool.{Bool, _&&_, _||_}
+use lib.IntN.{ℤ}
+use Rattle.plan_file.specs.declared.Trailer.{Trailer}
+use Rattle.plan_file.specs.declared.Head.{Head}
+
+pub alike-trailers : {a b c d e f g h A B C D E F G H : ℤ} →
+    a ≡ A → b ≡ B → c ≡ C → d ≡ D → e ≡ E → f ≡ F → g ≡ G → h ≡ H →
+    _≡_ {A = Trailer}
+    (record { back = a; count = b; width = c; height = d; pel = e; radius = f; satd = g; form = h })
+    (record { back = A; count = B; width = C; height = D; pel = E; radius = F; satd = G; form = H })
+alike-trailers p₀ p₁ p₂ p₃ p₄ p₅ p₆ p₇ = cc
+
+pub alike-heads : {a b c d e f A B C D E F : ℤ} →
+    a ≡ A → b ≡ B → c ≡ C → d ≡ D → e ≡ E → f ≡ F →
+    _≡_ {A = Head}
+    (record { count = a; searched = b; width = c; height = d; pel = e; slots = f })
+    (record { count = A; searched = B; width = C; height = D; pel = E; slots = F })
+alike-heads p₀ p₁ p₂ p₃ p₄ p₅ = cc
+
+pub six-hold : {a b c d e f A B C D E F : Bool} → a ≡ A → b ≡ B → c ≡ C → d ≡ D → e ≡ E → f ≡ F →
+    (a && b && c && d && e && f) ≡ (A && B && C && D && E && F)
+six-hold p q r s t u = cc
+
+pub block-tests : {a b c d A B C D : Bool} → a ≡ A → b ≡ B → c ≡ C → d ≡ D → (a && b || c && (b || d)) ≡ (A && B || C && (B || D))
+block-tests p q r s = cc

@@ -1,0 +1,86 @@
+-- How long the report's lines can be: a record's line has at most 131 bytes with its newline, so that a lent line of 131 is never refused with 5. Assumes nothing.
+use mathlib.Core.Path.{_≡_, refl}
+use mathlib.Core.Bool.{Bool, true, false}
+use mathlib.Core.List.{List, _++_}
+use Prim.Native.Nat.{ℕ, suc, _+_, _*_, _^_, _≤_, _<_}
+use native.Mathlib.Nat.{div-add-mod'}
+use native.Mathlib.Omega.{arith}
+use lib.Dec.{lit<}
+use lib.IntN.{ℤ, pos, negsuc, natAbs}
+use lib.ListN.{length, length-append}
+use lib.Signed.{ltZ, shrZ}
+use mir.Syntax.{w16, w32}
+use mir.Val.{SFits}
+use Rattle.whole.specs.Numbers.{modZ}
+use Rattle.whole.specs.Signed.{range, abs-is}
+use Rattle.whole.specs.Floor.{mod-below, floor-low, floor-high}
+use Rattle.whole.specs.Wrapping.{wrapped-fits}
+use Rattle.little_endian.specs.Bytes.{wordAt}
+use Rattle.little_endian.specs.Undone.{word-fits}
+use Rattle.records.specs.Packing.{absentWord}
+use Rattle.records.specs.Unpacking.{offsetOf, pairOf, recordOf}
+use Rattle.report_text.specs.Text.{codes, decimal}
+use Rattle.report_text.specs.Digits.{digits-length, decimal-length}
+use Rattle.plan_file.specs.PlanFile.{wordsAt, recordAt, badFlag, halfFlag}
+use Rattle.plan_file.specs.Report.{field, pairText, offsetText, lineText}
+
+-- so many digits, and one byte for a sign
+natural-most : (k n : ℕ) → n < 10 ^ suc k → length (decimal (pos n)) ≤ suc k
+unfolding decimal
+natural-most k n h = digits-length k n h
+
+signed-most : (k : ℕ) (z : ℤ) → natAbs z < 10 ^ suc k → length (decimal z) ≤ suc (suc k)
+unfolding decimal
+signed-most k (pos n) h = let m = digits-length k n h in omega arith
+signed-most k (negsuc n) h = let m = digits-length k (suc n) h in omega arith
+
+-- each part of a pair fits i16, and so takes at most 6 bytes
+pair-most : {word : ℤ} → SFits w32 word → length (pairText (pairOf word)) ≤ 13
+pair-most {word} f =
+    let low = pairOf word .first in
+    let high = pairOf word .second in
+    let a = signed-most 4 low (omega (arith, range (wrapped-fits w16 word), abs-is low)) in
+    let b = signed-most 4 high (omega (arith, range f, floor-low {m = 65536} (lit< tt) word, floor-high {m = 65536} (lit< tt) word, abs-is high)) in
+    simp length-append (omega arith)
+
+offset-by : {word : ℤ} (t : Bool) → ltZ absentWord word ≡ t → SFits w32 word → length (offsetText (offsetOf word)) ≤ 11
+offset-by true e f = rw e (decimal-length f)
+offset-by false e f = rw e (omega arith)
+
+-- a flag is 0 or 1
+bad-most : (last : ℤ) → length (decimal (badFlag (pos (modZ last 4)))) ≤ 1
+bad-most last = natural-most 0 _ (omega (arith, mod-below {m = 2} (lit< tt) (pos (modZ last 4))))
+
+half-most : (last : ℤ) → length (decimal (halfFlag (pos (modZ last 4)))) ≤ 1
+half-most last = natural-most 0 _ (omega (arith, mod-below {m = 4} (lit< tt) last, div-add-mod' (modZ last 4) 2))
+
+strength-most : {last : ℤ} → SFits w32 last → length (decimal (shrZ last 4)) ≤ 10
+strength-most {last} f = signed-most 8 (shrZ last 4) (omega (arith, range f, floor-low {m = 4} (lit< tt) last, floor-high {m = 4} (lit< tt) last, abs-is (shrZ last 4)))
+
+sum-of-ten : (a b c d e f g h i j : List ℕ) →
+    length (a ++ b ++ c ++ d ++ e ++ f ++ g ++ h ++ i ++ j)
+    ≡ length a + length b + length c + length d + length e + length f + length g + length h + length i + length j
+sum-of-ten a b c d e f g h i j = simp length-append
+
+pub line-most : (file : List ℕ) (number : ℕ) → number < 1364 → length (lineText (pos number) (recordAt file number)) ≤ 131
+unfolding lineText recordAt recordOf wordsAt
+line-most file number h =
+    let r = recordAt file number in
+    let at = 48 * number in
+    let last = wordAt file (at + 44) in
+    let w : (k : ℕ) → SFits w32 (wordAt file (at + k)) = λ k. word-fits file (at + k) in
+    omega (
+      arith,
+      sum-of-ten (decimal (pos number)) (field " bad=" (badFlag (r .flags))) (field " half=" (halfFlag (r .flags))) (field " lambda=" (r .lambda))
+          (codes " predictor=" ++ pairText (r .predictor)) (field " sad=" (r .sad)) (codes " average=" ++ offsetText (r .average))
+          (codes " window=" ++ pairText (r .«window_x»)) (codes "," ++ pairText (r .«window_y»)) (codes "\n"),
+      natural-most 3 number (omega arith),
+      bad-most last,
+      half-most last,
+      strength-most (w 44),
+      pair-most (w 28),
+      decimal-length (w 40),
+      offset-by (ltZ absentWord (wordAt file (at + 16))) refl (w 16),
+      pair-most (w 32),
+      pair-most (w 36),
+    )

@@ -1,0 +1,142 @@
+-- 01, "Plan file": "Form 1: records of 12 little-endian words from byte 0, then a trailer of eight words that points back: bytes back to the first record
+-- (48 x count), count, width, height, pel, radius, SATD 0 or 1, form 1. Bytes back + 32 is the file's length. Size, pel and radius are inside the limits above."
+-- The limits: "Block 8x8, 16x8 or 16x16", "Pel 1, 2 or 4", a radius of at most 3. Definitions alone.
+use mathlib.Core.Bool.{Bool, false, cond, _&&_, _||_}
+use mathlib.Core.List.{List}
+use Prim.Native.Nat.{ℕ, zero, suc, _+_, _-_, _*_}
+use lib.Dec.{leb}
+use lib.IntN.{ℤ, pos, natAbs, _+ℤ_, _-ℤ_, _*ℤ_}
+use lib.ListN.{length}
+use lib.Signed.{ltZ, leZ, shrZ}
+use Rattle.whole.specs.Numbers.{liesIn, modZ}
+use Rattle.limits.specs.Limits.{isPel}
+use Rattle.little_endian.specs.Bytes.{wordAt}
+use Rattle.records.specs.declared.Pair.{Pair}
+use Rattle.records.specs.declared.Record.{Record}
+use Rattle.records.specs.declared.Words.{Words}
+use Rattle.records.specs.Unpacking.{recordOf}
+use Rattle.plan_file.specs.declared.Trailer.{Trailer}
+use Rattle.plan_file.specs.declared.Head.{Head}
+use Rattle.plan_file.specs.declared.Plan.{Plan}
+use Rattle.plan_file.specs.declared.Plan.the-variants as plan
+
+-- ---- the records: 48 bytes each, from byte 0 on
+unfoldable pub wordsAt : List ℕ → ℕ → Words
+wordsAt file at =
+    record {
+      full = wordAt file at;
+      overlay = wordAt file (at + 4);
+      u = wordAt file (at + 8);
+      v = wordAt file (at + 12);
+      average = wordAt file (at + 16);
+      pos = wordAt file (at + 20);
+      cpos = wordAt file (at + 24);
+      predictor = wordAt file (at + 28);
+      «window_x» = wordAt file (at + 32);
+      «window_y» = wordAt file (at + 36);
+      sad = wordAt file (at + 40);
+      last = wordAt file (at + 44);
+    }
+
+unfoldable pub recordAt : List ℕ → ℕ → Record
+recordAt file number = recordOf (wordsAt file (48 * number))
+
+-- ---- the trailer: the last 32 bytes
+unfoldable pub trailerOf : List ℕ → Trailer
+trailerOf file =
+    let at : ℕ = length file - 32 in
+    record {
+      back = wordAt file at;
+      count = wordAt file (at + 4);
+      width = wordAt file (at + 8);
+      height = wordAt file (at + 12);
+      pel = wordAt file (at + 16);
+      radius = wordAt file (at + 20);
+      satd = wordAt file (at + 24);
+      form = wordAt file (at + 28);
+    }
+
+abbrev pub same : ℤ → ℤ → Bool
+same x y = liesIn x x y
+
+abbrev pub isBlock : ℤ → ℤ → Bool
+isBlock width height = same (pos 8) width && same (pos 8) height || same (pos 16) width && (same (pos 8) height || same (pos 16) height)
+
+abbrev pub lengthsHold : ℤ → ℤ → ℕ → Bool
+lengthsHold back count bytes = same (back +ℤ pos 32) (pos bytes) && same back (count *ℤ pos 48)
+
+unfoldable pub trailerHolds : Trailer → ℕ → Bool
+trailerHolds t bytes =
+    lengthsHold (t .back) (t .count) bytes
+    && isBlock (t .width) (t .height)
+    && isPel (t .pel)
+    && liesIn (pos 0) (pos 3) (t .radius)
+    && liesIn (pos 0) (pos 1) (t .satd)
+    && same (pos 1) (t .form)
+
+-- "8: a plan file's trailer breaks its rules, or the file is under 32 or over 65,536 bytes"
+unfoldable pub isPlanFile : List ℕ → Bool
+isPlanFile file = leb 32 (length file) && leb (length file) 65536 && trailerHolds (trailerOf file) (length file)
+
+-- ---- the flags: "BAD 1, NEGATIVE 2"
+abbrev pub badFlag : ℤ → ℤ
+badFlag flags = pos (modZ flags 2)
+
+abbrev pub halfFlag : ℤ → ℤ
+halfFlag flags = shrZ flags 2
+
+abbrev pub isBad : Record → Bool
+isBad r = leZ (pos 1) (badFlag (r .flags))
+
+-- ---- "7: a BAD record's window has both sides non-empty and one over 2 x radius + 1"
+-- a window's side, from its least to its greatest: 0 or less where it is empty
+abbrev pub sideOf : Pair → ℤ
+sideOf window = window .second -ℤ window .first +ℤ pos 1
+
+abbrev pub mostOf : ℤ → ℤ
+mostOf radius = radius *ℤ pos 2 +ℤ pos 1
+
+abbrev pub windowWide : ℤ → ℤ → ℤ → Bool
+windowWide most x y = (ltZ (pos 0) x && ltZ (pos 0) y) && (ltZ most x || ltZ most y)
+
+unfoldable pub isWide : ℤ → Record → Bool
+isWide radius r = isBad r && windowWide (mostOf radius) (sideOf (r .«window_x»)) (sideOf (r .«window_y»))
+
+-- whether any of the first so many records is so wide, and how many of them pass a test
+unfoldable pub anyWide : ℤ → List ℕ → ℕ → Bool
+anyWide radius file zero = false
+anyWide radius file (suc n) = anyWide radius file n || isWide radius (recordAt file n)
+
+unfoldable pub tally : (Record → Bool) → List ℕ → ℕ → ℕ
+tally test file zero = 0
+tally test file (suc n) = tally test file n + cond (test (recordAt file n)) 1 0
+
+-- ---- "Slots are 1 + (2 x radius + 1) squared"
+abbrev pub slotsOf : ℤ → ℤ
+slotsOf radius = mostOf radius *ℤ mostOf radius +ℤ pos 1
+
+-- ---- "First line: count, records with BAD set, block size, pel, slots"
+unfoldable pub headOf : List ℕ → Head
+unfolding trailerOf
+headOf file =
+    let t : Trailer = trailerOf file in
+    record {
+      count = t .count;
+      searched = pos (tally isBad file (natAbs (t .count)));
+      width = t .width;
+      height = t .height;
+      pel = t .pel;
+      slots = slotsOf (t .radius);
+    }
+
+-- "a file is asked for 8 first"
+unfoldable pub planOf : List ℕ → Plan
+planOf file =
+    cond (isPlanFile file)
+    (cond (anyWide (trailerOf file .radius) file (natAbs (trailerOf file .count))) (plan.Refused 7) (plan.Accepted (headOf file)))
+    (plan.Refused 8)
+
+-- 01's numbers for the answers: 0 done
+abbrev pub planNumber : Plan → ℕ
+planNumber (plan.Accepted head) = 0
+planNumber (plan.Refused number) = number

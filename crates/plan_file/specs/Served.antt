@@ -1,0 +1,88 @@
+-- What a file that 8 does not refuse has: its length and its count fit each other, and its radius is one of 0 to 3. Assumes nothing.
+use mathlib.Core.Path.{_≡_}
+use mathlib.Core.Bool.{true, false, _&&_}
+use mathlib.Core.List.{List}
+use Prim.Native.Nat.{ℕ, _+_, _*_, _≤_}
+use borrow.Author.Tests.{leb-true}
+use lib.Dec.{T, leb}
+use lib.IntN.{ℤ, pos, natAbs, _+ℤ_, _*ℤ_}
+use lib.ListN.{length}
+use lib.Signed.{nonNeg}
+use Rattle.whole.specs.Numbers.{liesIn}
+use Rattle.whole.specs.Signed.{signed, add-is, times-is, abs-is, nonneg-of}
+use Rattle.whole.specs.Truth.{left-of, right-of, lies-low, lies-high}
+use Rattle.limits.specs.Limits.{isPel}
+use Rattle.plan_file.specs.declared.Trailer.{Trailer}
+use Rattle.plan_file.specs.declared.Plan.the-variants as plan
+use Rattle.plan_file.specs.PlanFile.{same, isBlock, lengthsHold, trailerHolds, trailerOf, isPlanFile, anyWide, headOf, planOf}
+
+pub record Served (t : Trailer) (bytes : ℕ) : Type 0 where
+  pub enough : 32 ≤ bytes
+  pub most : bytes ≤ 65536
+  pub counted : 48 * natAbs (t .count) + 32 ≡ bytes
+  pub natural : T (nonNeg (t .count))
+  pub radius-lies : liesIn (pos 0) (pos 3) (t .radius) ≡ true
+
+pub record Counted (count : ℤ) (bytes : ℕ) : Type 0 where
+  pub long : 48 * natAbs count + 32 ≡ bytes
+  pub natural : T (nonNeg count)
+
+pub lengths-say : (back count : ℤ) (bytes : ℕ) → 32 ≤ bytes → lengthsHold back count bytes ≡ true → Counted count bytes
+lengths-say back count bytes enough e =
+    let x = back +ℤ pos 32 in
+    let y = count *ℤ pos 48 in
+    let ends = left-of (same x (pos bytes)) (same back y) e in
+    let begins = right-of (same x (pos bytes)) (same back y) e in
+    let a = lies-low x x (pos bytes) ends in
+    let b = lies-high x x (pos bytes) ends in
+    let c = lies-low back back y begins in
+    let d = lies-high back back y begins in
+    record {
+      long = omega (signed, add-is back (pos 32), times-is count 48, abs-is count);
+      natural = nonneg-of count (omega (signed, add-is back (pos 32), times-is count 48));
+    }
+
+pub trailer-says : (t : Trailer) (bytes : ℕ) → trailerHolds t bytes ≡ true → (lengthsHold (t .back) (t .count) bytes ≡ true) × (liesIn (pos 0) (pos 3) (t .radius) ≡ true)
+unfolding trailerHolds
+trailer-says t bytes e =
+    let l = lengthsHold (t .back) (t .count) bytes in
+    let b = isBlock (t .width) (t .height) in
+    let p = isPel (t .pel) in
+    let r = liesIn (pos 0) (pos 3) (t .radius) in
+    let s = liesIn (pos 0) (pos 1) (t .satd) in
+    let f = same (pos 1) (t .form) in
+    let upto-radius = left-of (l && b && p && r) s (left-of (l && b && p && r && s) f e) in (
+      left-of l b (left-of (l && b) p (left-of (l && b && p) r upto-radius)),
+      right-of (l && b && p) r upto-radius,
+    )
+
+pub served : (file : List ℕ) → isPlanFile file ≡ true → Served (trailerOf file) (length file)
+unfolding isPlanFile
+served file e =
+    let n = length file in
+    let t = trailerOf file in
+    let long = left-of (leb 32 n && leb n 65536) (trailerHolds t n) e in
+    let says = trailer-says t n (right-of (leb 32 n && leb n 65536) (trailerHolds t n) e) in
+    let enough = leb-true 32 n (left-of (leb 32 n) (leb n 65536) long) in
+    let count = lengths-say (t .back) (t .count) n enough (says .0) in
+    record {
+      enough = enough;
+      most = leb-true n 65536 (right-of (leb 32 n) (leb n 65536) long);
+      counted = count .long;
+      natural = count .natural;
+      radius-lies = says .1;
+    }
+
+-- ---- the three answers
+module _ (file : List ℕ) where
+  pub refused-8 : isPlanFile file ≡ false → planOf file ≡ plan.Refused 8
+  unfolding planOf
+  refused-8 e = rw e
+
+  pub refused-7 : isPlanFile file ≡ true → anyWide (trailerOf file .radius) file (natAbs (trailerOf file .count)) ≡ true → planOf file ≡ plan.Refused 7
+  unfolding planOf
+  refused-7 e wide = rw (e, wide)
+
+  pub accepted : isPlanFile file ≡ true → anyWide (trailerOf file .radius) file (natAbs (trailerOf file .count)) ≡ false → planOf file ≡ plan.Accepted (headOf file)
+  unfolding planOf
+  accepted e wide = rw (e, wide)
