@@ -23,21 +23,15 @@ const SIZES: [(i64, i64); 10] = [
 const MOST: i64 = 512;
 
 fn read_block(numbers: &mut Numbers<'_>) -> Result<Work, Fault> {
-    let mut plane = Plane {
-        base: numbers.take()?,
-        pitch: numbers.take()?,
-        width: numbers.take()?,
-        height: numbers.take()?,
-        length: 0,
-    };
+    let plane = Plane::read_place(numbers)?;
     let pel = numbers.take()?;
     let (x, y) = numbers.two()?;
     let size = numbers.two()?;
     if !SIZES.contains(&size) {
         return Err(format!("{}x{} is not a size of a block", size.0, size.1));
     }
-    plane.length = numbers.take_in(0, MOST)? as usize;
-    let data: Vec<u8> = numbers.many(plane.length)?;
+    let length = numbers.take_in(0, MOST)? as usize;
+    let data: Vec<u8> = numbers.many(length)?;
     let shape = Shape::new(size.0 as usize, size.1 as usize);
     Ok(Box::new(move || {
         let view = plane.view(&data, pel);

@@ -25,14 +25,21 @@ pub(crate) struct Plane {
 }
 
 impl Plane {
-    pub(crate) fn read(numbers: &mut Numbers<'_>) -> Result<Self, Fault> {
+    /// Its place alone, without data.
+    pub(crate) fn read_place(numbers: &mut Numbers<'_>) -> Result<Self, Fault> {
         Ok(Self {
             base: numbers.take()?,
             pitch: numbers.take()?,
             width: numbers.take()?,
             height: numbers.take()?,
-            length: numbers.take_in(0, LONGEST)? as usize,
+            length: 0,
         })
+    }
+
+    pub(crate) fn read(numbers: &mut Numbers<'_>) -> Result<Self, Fault> {
+        let mut plane = Self::read_place(numbers)?;
+        plane.length = numbers.take_in(0, LONGEST)? as usize;
+        Ok(plane)
     }
 
     pub(crate) fn numbers(&self) -> [i64; 5] {
@@ -91,13 +98,7 @@ impl Fill {
 }
 
 fn read_offset(numbers: &mut Numbers<'_>) -> Result<Work, Fault> {
-    let plane = Plane {
-        base: numbers.take()?,
-        pitch: numbers.take()?,
-        width: numbers.take()?,
-        height: numbers.take()?,
-        length: 0,
-    };
+    let plane = Plane::read_place(numbers)?;
     let pel = numbers.take()?;
     let (x, y) = numbers.two()?;
     Ok(Box::new(move || {
