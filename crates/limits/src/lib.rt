@@ -1,7 +1,7 @@
 // The numbers that are accepted, one test for each kind. Several entries ask the same ones.
 
 ghost use mathlib.Core.Path.{_≡_};
-ghost use Rattle.limits.specs.Limits.{isGridSide, isStep, isFrameSide, isPel, areShifts, isPitch, isLength, isComponent};
+ghost use Rattle.limits.specs.Limits.{isBlock, isGridSide, isStep, isFrameSide, isPel, areShifts, shiftedBy, isPitch, isLength, isComponent};
 
 pub fn is_grid_side(side: i32) -> bool
     ensures { λ r. ⌜ r ≡ isGridSide side ⌝ }
@@ -49,4 +49,22 @@ pub fn is_component(component: i32) -> bool
     ensures { λ r. ⌜ r ≡ isComponent component ⌝ }
 {
     whole::within(component, -32768, 32767)
+}
+
+pub fn is_block(width: i32, height: i32) -> bool
+    ensures { λ r. ⌜ r ≡ isBlock width height ⌝ }
+{
+    let high_8 = whole::within(height, 8, 8);
+    let high_16 = whole::within(height, 16, 16);
+    whole::within(width, 8, 8) & high_8 | whole::within(width, 16, 16) & (high_8 | high_16)
+}
+
+// A number shifted right by a chroma shift.
+pub fn shifted(z: i32, shift: i32) -> i32
+    ensures { λ r. ⌜ r ≡ shiftedBy z shift ⌝ }
+{
+    if shift < 1 {
+        return z;
+    }
+    z >> 1
 }

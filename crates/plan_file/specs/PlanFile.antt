@@ -9,7 +9,7 @@ use lib.IntN.{ℤ, pos, natAbs, _+ℤ_, _-ℤ_, _*ℤ_}
 use lib.ListN.{length}
 use lib.Signed.{ltZ, leZ, shrZ}
 use Rattle.whole.specs.Numbers.{liesIn, modZ}
-use Rattle.limits.specs.Limits.{isPel}
+use Rattle.limits.specs.Limits.{same, isBlock, isPel}
 use Rattle.little_endian.specs.Bytes.{wordAt}
 use Rattle.records.specs.declared.Pair.{Pair}
 use Rattle.records.specs.declared.Record.{Record}
@@ -55,12 +55,6 @@ trailerOf file =
       satd = wordAt file (at + 24);
       form = wordAt file (at + 28);
     }
-
-abbrev pub same : ℤ → ℤ → Bool
-same x y = liesIn x x y
-
-abbrev pub isBlock : ℤ → ℤ → Bool
-isBlock width height = same (pos 8) width && same (pos 8) height || same (pos 16) width && (same (pos 8) height || same (pos 16) height)
 
 abbrev pub lengthsHold : ℤ → ℤ → ℕ → Bool
 lengthsHold back count bytes = same (back +ℤ pos 32) (pos bytes) && same back (count *ℤ pos 48)

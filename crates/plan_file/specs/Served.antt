@@ -11,10 +11,10 @@ use lib.Signed.{nonNeg}
 use Rattle.whole.specs.Numbers.{liesIn}
 use Rattle.whole.specs.Signed.{signed, add-is, times-is, abs-is, nonneg-of}
 use Rattle.whole.specs.Truth.{left-of, right-of, lies-low, lies-high}
-use Rattle.limits.specs.Limits.{isPel}
+use Rattle.limits.specs.Limits.{same, isBlock, isPel}
 use Rattle.plan_file.specs.declared.Trailer.{Trailer}
 use Rattle.plan_file.specs.declared.Plan.the-variants as plan
-use Rattle.plan_file.specs.PlanFile.{same, isBlock, lengthsHold, trailerHolds, trailerOf, isPlanFile, anyWide, headOf, planOf}
+use Rattle.plan_file.specs.PlanFile.{lengthsHold, trailerHolds, trailerOf, isPlanFile, anyWide, headOf, planOf}
 
 pub record Served (t : Trailer) (bytes : ℕ) : Type 0 where
   pub enough : 32 ≤ bytes

@@ -13,8 +13,8 @@ ghost use lib.IntN.{pos};
 ghost use lib.ListN.{length};
 ghost use Rattle.whole.specs.Numbers.{liesIn};
 ghost use Rattle.report_text.specs.Putting.{Puts, lentAnswer, lentLine};
-ghost use Rattle.plan_file.specs.PlanFile.{wordsAt, recordAt, trailerOf, isBlock, lengthsHold, trailerHolds, isPlanFile, badFlag, halfFlag, isBad, sideOf, windowWide, isWide, anyWide, tally, slotsOf, planOf, planNumber};
-ghost use Rattle.plan_file.specs.PlanFile.{same as sameNumber};
+ghost use Rattle.plan_file.specs.PlanFile.{wordsAt, recordAt, trailerOf, lengthsHold, trailerHolds, isPlanFile, badFlag, halfFlag, isBad, sideOf, windowWide, isWide, anyWide, tally, slotsOf, planOf, planNumber};
+ghost use Rattle.limits.specs.Limits.{same as sameNumber};
 ghost use Rattle.plan_file.specs.Parts.{frontText, windowsText, backText};
 ghost use Rattle.plan_file.specs.Report.{pairText, offsetText, headText, lineText, headAnswer, lineAnswer, headLine, lineLine};
 
@@ -101,14 +101,6 @@ fn lengths_hold(back: i32, count: i32, bytes: usize) -> bool
     same(back as i64 + 32, bytes as i64) & same(back as i64, count as i64 * 48)
 }
 
-fn is_block(width: i32, height: i32) -> bool
-    ensures { λ r. ⌜ r ≡ isBlock width height ⌝ }
-{
-    let high_8 = whole::within(height, 8, 8);
-    let high_16 = whole::within(height, 16, 16);
-    whole::within(width, 8, 8) & high_8 | whole::within(width, 16, 16) & (high_8 | high_16)
-}
-
 fn trailer_holds(t: Trailer, bytes: usize) -> bool
     requires { ⌜ bytes ≤ 65536 ⌝ }
     ensures { λ r. ⌜ r ≡ trailerHolds t bytes ⌝ }
@@ -122,7 +114,7 @@ fn trailer_holds(t: Trailer, bytes: usize) -> bool
     let satd = t.satd;
     let form = t.form;
     lengths_hold(back, count, bytes)
-        & is_block(width, height)
+        & limits::is_block(width, height)
         & limits::is_pel(pel)
         & whole::within(radius, 0, 3)
         & whole::within(satd, 0, 1)

@@ -107,6 +107,10 @@ is-arg f p = record { same = toZ-ofZ f; lies = p }
 pub is-call : (w : Width) {l h : ℕ} {z x : ℤ} → mag z < 2 ^ hbits w → z ≡ x → Within l h x → Is w l h (toZ w (ofZ w z)) x
 is-call w ok e p = record { same = got w ok e; lies = p }
 
+-- what the machine reads lies where the number meant does
+pub read-within : {w : Width} {l h : ℕ} {X x : ℤ} → Is w l h X x → Within l h X
+read-within {l = l} {h = h} p = subst (Within l h) (sym (p .same)) (p .lies)
+
 -- a number whose interval shows that it fits
 pub is-within : (w : Width) {l h : ℕ} {x : ℤ} → Within l h x → T (leb l (2 ^ hbits w)) → T (ltb h (2 ^ hbits w)) → Is w l h (toZ w (ofZ w x)) x
 is-within w p t u = is-arg (fits p t u) p

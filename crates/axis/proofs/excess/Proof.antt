@@ -1,12 +1,12 @@
 -- The predictor with its margin, against the two limits. Assumes nothing.
 use borrow.Author.Needs.{needs}
-use mathlib.Core.Path.{_∙_, sym, subst}
+use mathlib.Core.Path.{_∙_}
 use lib.IntN.{ℤ}
 use mir.Facts.{toZ-ofZ}
 use mir.Syntax.{w32}
 use mir.Val.{SFits, toZ, ofZ}
 use Rattle.whole.specs.Signed.{got}
-use Rattle.whole.specs.Interval.{Within, Is, is-call, is-within, fits}
+use Rattle.whole.specs.Interval.{Is, is-call, is-within, read-within, fits}
 use Rattle.axis.specs.Axis.{marginOf, leastOf, endOf, excessOf}
 use Rattle.axis.specs.Bounds.{Bounded, margin-within, least-within, end-within}
 use Rattle.axis.proofs.excess.Statement.{statement}
@@ -24,10 +24,6 @@ module _ (c : tie.After-end) where
 
   end-is : Is w32 65600 65600 (toZ w32 (ofZ w32 (c .end .result))) (endOf (c .before .before .before .before .args .axis))
   end-is = is-call w32 (c .end .ok) (c .end .ensures) (end-within (c .before .before .before .before .pre))
-
--- what the machine reads lies where the number meant does
-read-within : {l h : _} {X x : ℤ} → Is w32 l h X x → Within l h X
-read-within {l} {h} p = subst (Within l h) (sym (p .same)) (p .lies)
 
 margin-requires : tie.Need-margin-requires
 margin-requires c κs =

@@ -1,9 +1,13 @@
 -- Each side is asked about its numbers. Assumes nothing.
 use borrow.Author.Needs.{needs}
+use mathlib.Core.Path.{_≡_}
+use mathlib.Core.Bool.{Bool, _&&_, _||_}
 use mir.Facts.{toZ-ofZ}
-use Rattle.plan_file.specs.Alike.{block-tests}
-use Rattle.plan_file.proofs.is_block.Statement.{statement}
-use Rattle.plan_file.proofs.is_block.Tie as tie
+use Rattle.limits.proofs.is_block.Statement.{statement}
+use Rattle.limits.proofs.is_block.Tie as tie
+
+block-tests : {a b c d A B C D : Bool} → a ≡ A → b ≡ B → c ≡ C → d ≡ D → (a && b || c && (b || d)) ≡ (A && B || C && (B || D))
+block-tests p q r s = cc
 
 returns : tie.Need-returns
 returns c =
