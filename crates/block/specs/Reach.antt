@@ -211,9 +211,9 @@ module _ {s : Settings} {b : Block} (k : Ready s b) where
       let x = subst (λ (z : ℤ). Before z (placeOf moves (shapeOf s b .across))) frame-across (inside-before (place-inside (shapeOf s b .across) across-inside moves)) in
       let y = subst (λ (z : ℤ). Before z (placeOf moves (shapeOf s b .down))) frame-down (inside-before (place-inside (shapeOf s b .down) down-inside moves)) in
       let cx : shapeOf s b .negative ≡ false → Before (shiftedBy (s .planes .luma .width) (s .shift .x)) (chromaPlace (shapeOf s b .across .origin) (placeOf moves (shapeOf s b .across)) (s .shift .x)) = λ e. subst (λ (z : ℤ). Before (shiftedBy z (s .shift .x)) (chromaPlace (shapeOf s b .across .origin) (placeOf moves (shapeOf s b .across)) (s .shift .x))) frame-across
-            (chroma-before (s .shift .x) across-inside (place-inside (shapeOf s b .across) across-inside moves) (across-plain e)) in
+      (chroma-before (s .shift .x) across-inside (place-inside (shapeOf s b .across) across-inside moves) (across-plain e)) in
       let cy : shapeOf s b .negative ≡ false → Before (shiftedBy (s .planes .luma .height) (s .shift .y)) (chromaPlace (shapeOf s b .down .origin) (placeOf moves (shapeOf s b .down)) (s .shift .y)) = λ e. subst (λ (z : ℤ). Before (shiftedBy z (s .shift .y)) (chromaPlace (shapeOf s b .down .origin) (placeOf moves (shapeOf s b .down)) (s .shift .y))) frame-down
-            (chroma-before (s .shift .y) down-inside (place-inside (shapeOf s b .down) down-inside moves) (down-plain e)) in
+      (chroma-before (s .shift .y) down-inside (place-inside (shapeOf s b .down) down-inside moves) (down-plain e)) in
       record {
         luma = addressed (k .luma) x y;
         u = λ e. addressed (k .u) (cx e) (cy e);

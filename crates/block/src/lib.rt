@@ -302,11 +302,26 @@ fn quiet_record(block: Block, negative: bool, lambda: i32, average: Offset) -> R
         u: Offset::Absent,
         v: Offset::Absent,
         average: average,
-        pos: Pair { first: 0, second: 0 },
-        cpos: Pair { first: 0, second: 0 },
-        predictor: Pair { first: px, second: py },
-        window_x: Pair { first: 0, second: -1 },
-        window_y: Pair { first: 0, second: -1 },
+        pos: Pair {
+            first: 0,
+            second: 0,
+        },
+        cpos: Pair {
+            first: 0,
+            second: 0,
+        },
+        predictor: Pair {
+            first: px,
+            second: py,
+        },
+        window_x: Pair {
+            first: 0,
+            second: -1,
+        },
+        window_y: Pair {
+            first: 0,
+            second: -1,
+        },
         sad: sad,
         lambda: lambda,
         flags: flags_of(false, negative),
@@ -323,7 +338,14 @@ fn scaled(pel: i32, x: i32, y: i32) -> Pair
     }
 }
 
-fn bad_record(block: Block, shape: Shape, spot: Spot, lambda: i32, source: Source, average: Offset) -> Record
+fn bad_record(
+    block: Block,
+    shape: Shape,
+    spot: Spot,
+    lambda: i32,
+    source: Source,
+    average: Offset,
+) -> Record
     requires { ⌜ Held shape spot ⌝ }
     ensures { λ r. ⌜ r ≡ badRecord block shape spot lambda source average ⌝ }
 {
@@ -350,7 +372,10 @@ fn bad_record(block: Block, shape: Shape, spot: Spot, lambda: i32, source: Sourc
         average: average,
         pos: scaled(pel, x, y),
         cpos: scaled(pel, cx, cy),
-        predictor: Pair { first: px, second: py },
+        predictor: Pair {
+            first: px,
+            second: py,
+        },
         window_x: axis::window(across, x),
         window_y: axis::window(down, y),
         sad: sad,
@@ -360,7 +385,14 @@ fn bad_record(block: Block, shape: Shape, spot: Spot, lambda: i32, source: Sourc
 }
 
 // ---- the three kinds of block
-fn bad_step(planes: Planes, shift: Sides, block: Block, shape: Shape, lambda: i32, slots: Slots) -> Step
+fn bad_step(
+    planes: Planes,
+    shift: Sides,
+    block: Block,
+    shape: Shape,
+    lambda: i32,
+    slots: Slots,
+) -> Step
     requires { ⌜ Bounded (shape .across) × Bounded (shape .down) ⌝ }
     requires { ⌜ SpotHeld planes (shape .negative) (spotOf shift false shape) × SpotHeld planes (shape .negative) (spotOf shift (movesOf shape) shape) ⌝ }
     ensures { λ r. ⌜ r ≡ badStep planes shift block shape lambda slots ⌝ }
