@@ -7,7 +7,8 @@ use native.Mathlib.Numerals.{add-one}
 use native.Mathlib.Omega.{arith}
 use lib.IntN.{ℤ}
 use Rattle.records.specs.declared.Record.{Record}
-use Rattle.plan_file.specs.PlanFile.{recordAt, isWide, anyWide, tally}
+use Rattle.window.specs.Windows.{isWide}
+use Rattle.plan_file.specs.PlanFile.{recordAt, anyWide, tally}
 
 pub no-records : (radius : ℤ) (file : List ℕ) → false ≡ anyWide radius file 0
 unfolding anyWide

@@ -9,7 +9,8 @@ use Rattle.records.specs.Unpacking.{recordOf}
 use Rattle.report_text.specs.Text.{codes, digitsBy, digits, decimal}
 use Rattle.plan_file.specs.declared.Head.{Head}
 use Rattle.plan_file.specs.declared.Plan.the-variants as plan
-use Rattle.plan_file.specs.PlanFile.{wordsAt, recordAt, trailerOf, trailerHolds, isPlanFile, isWide, anyWide, tally, headOf, planOf}
+use Rattle.window.specs.Windows.{isWide}
+use Rattle.plan_file.specs.PlanFile.{wordsAt, recordAt, trailerOf, trailerHolds, isPlanFile, anyWide, tally, headOf, planOf}
 use Rattle.plan_file.specs.Report.{headText, lineText}
 
 abbrev pub asBytes : List ℤ → List ℕ

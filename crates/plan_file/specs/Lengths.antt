@@ -21,7 +21,8 @@ use Rattle.records.specs.Packing.{absentWord}
 use Rattle.records.specs.Unpacking.{offsetOf, pairOf, recordOf}
 use Rattle.report_text.specs.Text.{codes, decimal}
 use Rattle.report_text.specs.Digits.{digits-length, decimal-length}
-use Rattle.plan_file.specs.PlanFile.{wordsAt, recordAt, badFlag, halfFlag}
+use Rattle.window.specs.Windows.{badFlag, halfFlag}
+use Rattle.plan_file.specs.PlanFile.{wordsAt, recordAt}
 use Rattle.plan_file.specs.Report.{field, pairText, offsetText, lineText}
 
 -- so many digits, and one byte for a sign

@@ -6,7 +6,7 @@ use lib.IntN.{ℤ}
 use Rattle.records.specs.declared.Record.{Record}
 use Rattle.report_text.specs.Text.{codes, decimal}
 use Rattle.plan_file.specs.declared.Head.{Head}
-use Rattle.plan_file.specs.PlanFile.{badFlag, halfFlag}
+use Rattle.window.specs.Windows.{badFlag, halfFlag}
 use Rattle.plan_file.specs.Report.{field, pairText, offsetText, headText, lineText}
 
 abbrev pub frontText : ℤ → Record → List ℕ

@@ -15,6 +15,7 @@ use Rattle.records.specs.declared.Pair.{Pair}
 use Rattle.records.specs.declared.Record.{Record}
 use Rattle.records.specs.declared.Words.{Words}
 use Rattle.records.specs.Unpacking.{recordOf}
+use Rattle.window.specs.Windows.{isBad, isWide, slotsOf}
 use Rattle.plan_file.specs.declared.Trailer.{Trailer}
 use Rattle.plan_file.specs.declared.Head.{Head}
 use Rattle.plan_file.specs.declared.Plan.{Plan}
@@ -72,30 +73,6 @@ trailerHolds t bytes =
 unfoldable pub isPlanFile : List ℕ → Bool
 isPlanFile file = leb 32 (length file) && leb (length file) 65536 && trailerHolds (trailerOf file) (length file)
 
--- ---- the flags: "BAD 1, NEGATIVE 2"
-abbrev pub badFlag : ℤ → ℤ
-badFlag flags = pos (modZ flags 2)
-
-abbrev pub halfFlag : ℤ → ℤ
-halfFlag flags = shrZ flags 2
-
-abbrev pub isBad : Record → Bool
-isBad r = leZ (pos 1) (badFlag (r .flags))
-
--- ---- "7: a BAD record's window has both sides non-empty and one over 2 x radius + 1"
--- a window's side, from its least to its greatest: 0 or less where it is empty
-abbrev pub sideOf : Pair → ℤ
-sideOf window = window .second -ℤ window .first +ℤ pos 1
-
-abbrev pub mostOf : ℤ → ℤ
-mostOf radius = radius *ℤ pos 2 +ℤ pos 1
-
-abbrev pub windowWide : ℤ → ℤ → ℤ → Bool
-windowWide most x y = (ltZ (pos 0) x && ltZ (pos 0) y) && (ltZ most x || ltZ most y)
-
-unfoldable pub isWide : ℤ → Record → Bool
-isWide radius r = isBad r && windowWide (mostOf radius) (sideOf (r .«window_x»)) (sideOf (r .«window_y»))
-
 -- whether any of the first so many records is so wide, and how many of them pass a test
 unfoldable pub anyWide : ℤ → List ℕ → ℕ → Bool
 anyWide radius file zero = false
@@ -104,10 +81,6 @@ anyWide radius file (suc n) = anyWide radius file n || isWide radius (recordAt f
 unfoldable pub tally : (Record → Bool) → List ℕ → ℕ → ℕ
 tally test file zero = 0
 tally test file (suc n) = tally test file n + cond (test (recordAt file n)) 1 0
-
--- ---- "Slots are 1 + (2 x radius + 1) squared"
-abbrev pub slotsOf : ℤ → ℤ
-slotsOf radius = mostOf radius *ℤ mostOf radius +ℤ pos 1
 
 -- ---- "First line: count, records with BAD set, block size, pel, slots"
 unfoldable pub headOf : List ℕ → Head

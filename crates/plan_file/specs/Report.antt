@@ -22,7 +22,8 @@ use Rattle.report_text.specs.declared.Written.the-variants as written
 use Rattle.plan_file.specs.declared.Head.{Head}
 use Rattle.plan_file.specs.declared.Plan.{Plan}
 use Rattle.plan_file.specs.declared.Plan.the-variants as plan
-use Rattle.plan_file.specs.PlanFile.{recordAt, badFlag, halfFlag, planOf}
+use Rattle.window.specs.Windows.{badFlag, halfFlag}
+use Rattle.plan_file.specs.PlanFile.{recordAt, planOf}
 
 -- ---- the two kinds of line
 abbrev pub field : String → ℤ → List ℕ

@@ -13,8 +13,9 @@ ghost use lib.IntN.{pos};
 ghost use lib.ListN.{length};
 ghost use Rattle.whole.specs.Numbers.{liesIn};
 ghost use Rattle.report_text.specs.Putting.{Puts, lentAnswer, lentLine};
-ghost use Rattle.plan_file.specs.PlanFile.{wordsAt, recordAt, trailerOf, lengthsHold, trailerHolds, isPlanFile, badFlag, halfFlag, isBad, sideOf, windowWide, isWide, anyWide, tally, slotsOf, planOf, planNumber};
+ghost use Rattle.plan_file.specs.PlanFile.{wordsAt, recordAt, trailerOf, lengthsHold, trailerHolds, isPlanFile, anyWide, tally, planOf, planNumber};
 ghost use Rattle.limits.specs.Limits.{same as sameNumber};
+ghost use Rattle.window.specs.Windows.{isBad};
 ghost use Rattle.plan_file.specs.Parts.{frontText, windowsText, backText};
 ghost use Rattle.plan_file.specs.Report.{pairText, offsetText, headText, lineText, headAnswer, lineAnswer, headLine, lineLine};
 
@@ -133,48 +134,6 @@ fn is_plan_file(file: &[u8]) -> bool
     trailer_holds(trailer_of(file), file.len())
 }
 
-fn bad_flag(flags: i32) -> i32
-    ensures { λ r. ⌜ r ≡ badFlag flags ⌝ }
-{
-    flags & 1
-}
-
-fn half_flag(flags: i32) -> i32
-    ensures { λ r. ⌜ r ≡ halfFlag flags ⌝ }
-{
-    flags >> 1
-}
-
-fn is_bad(given: Record) -> bool
-    ensures { λ r. ⌜ r ≡ isBad given ⌝ }
-{
-    let flags = given.flags;
-    1 <= bad_flag(flags)
-}
-
-// In 64 bits no side of any window is cut.
-fn side_of(window: Pair) -> i64
-    ensures { λ r. ⌜ r ≡ sideOf window ⌝ }
-{
-    let least = window.first;
-    let greatest = window.second;
-    greatest as i64 - least as i64 + 1
-}
-
-fn window_wide(most: i64, x: i64, y: i64) -> bool
-    ensures { λ r. ⌜ r ≡ windowWide most x y ⌝ }
-{
-    (0 < x) & (0 < y) & ((most < x) | (most < y))
-}
-
-fn is_wide(given: Record, radius: i32) -> bool
-    ensures { λ r. ⌜ r ≡ isWide radius given ⌝ }
-{
-    let window_x = given.window_x;
-    let window_y = given.window_y;
-    is_bad(given) & window_wide(radius as i64 * 2 + 1, side_of(window_x), side_of(window_y))
-}
-
 fn any_wide(file: &[u8], radius: i32, count: usize) -> bool
     requires { ⌜ 48 * count ≤ length (now file) ⌝ }
     ensures { λ r. ⌜ r ≡ anyWide radius (now (file .entry)) count ⌝ }
@@ -182,7 +141,7 @@ fn any_wide(file: &[u8], radius: i32, count: usize) -> bool
     let mut wide = false;
     let mut number: usize = 0;
     while number < count {
-        wide = wide | is_wide(record_at(file, number), radius);
+        wide = wide | window::is_wide(record_at(file, number), radius);
         number += 1;
     }
     wide
@@ -201,18 +160,10 @@ fn searched(file: &[u8], count: usize) -> usize
     let mut found: usize = 0;
     let mut number: usize = 0;
     while number < count {
-        found += one_where(is_bad(record_at(file, number)));
+        found += one_where(window::is_bad(record_at(file, number)));
         number += 1;
     }
     found
-}
-
-fn slots_of(radius: i32) -> i32
-    requires { ⌜ liesIn (pos 0) (pos 3) radius ≡ true ⌝ }
-    ensures { λ r. ⌜ r ≡ slotsOf radius ⌝ }
-{
-    let most = radius * 2 + 1;
-    most * most + 1
 }
 
 pub fn check_plan_file(file: &[u8]) -> Plan
@@ -238,7 +189,7 @@ pub fn check_plan_file(file: &[u8]) -> Plan
         width: width,
         height: height,
         pel: pel,
-        slots: slots_of(radius),
+        slots: window::slots_of(radius),
     })
 }
 
@@ -291,8 +242,8 @@ fn line_front(number: i32, given: Record, text: &mut [u8]) -> usize
     let flags = given.flags;
     let lambda = given.lambda;
     let predictor = given.predictor;
-    let bad = report_text::put_two(text, 0, b"", number, b" bad=", bad_flag(flags));
-    let half = half_flag(flags);
+    let bad = report_text::put_two(text, 0, b"", number, b" bad=", window::bad_flag(flags));
+    let half = window::half_flag(flags);
     let strength = report_text::put_two(text, bad, b" half=", half, b" lambda=", lambda);
     put_pair(text, strength, b" predictor=", predictor)
 }

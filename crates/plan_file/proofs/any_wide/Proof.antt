@@ -7,7 +7,8 @@ use mir.Facts.{toZ-ofZ}
 use mir.Syntax.{w32}
 use mir.Val.{toZ, ofZ}
 use Rattle.whole.specs.Truth.{either-alike}
-use Rattle.plan_file.specs.PlanFile.{isWide, anyWide}
+use Rattle.window.specs.Windows.{isWide}
+use Rattle.plan_file.specs.PlanFile.{anyWide}
 use Rattle.plan_file.specs.Counting.{no-records, one-more-asked}
 use Rattle.plan_file.proofs.any_wide.Statement.{statement}
 use Rattle.plan_file.proofs.any_wide.Tie as tie

@@ -11,7 +11,8 @@ use mir.Val.{SFits}
 use Rattle.whole.specs.Signed.{got}
 use Rattle.plan_file.specs.declared.Trailer.{Trailer}
 use Rattle.plan_file.specs.declared.Plan.the-variants as plan
-use Rattle.plan_file.specs.PlanFile.{isPlanFile, trailerOf, anyWide, isBad, tally, slotsOf, headOf}
+use Rattle.window.specs.Windows.{isBad, slotsOf}
+use Rattle.plan_file.specs.PlanFile.{isPlanFile, trailerOf, anyWide, tally, headOf}
 use Rattle.plan_file.specs.Counting.{counted-most}
 use Rattle.plan_file.specs.Served.{Served, served, refused-8, refused-7, accepted}
 use Rattle.plan_file.specs.Alike.{alike-heads}

@@ -7,7 +7,7 @@ use mir.Syntax.{w32}
 use mir.Val.{SFits, toZ, ofZ}
 use Rattle.whole.specs.Signed.{got}
 use Rattle.report_text.specs.PuttingLaws.{both-put}
-use Rattle.plan_file.specs.PlanFile.{badFlag, halfFlag}
+use Rattle.window.specs.Windows.{badFlag, halfFlag}
 use Rattle.plan_file.proofs.line_front.Statement.{statement}
 use Rattle.plan_file.proofs.line_front.Tie as tie
 

@@ -3,7 +3,8 @@ use mathlib.Core.Path.{_≡_, sym, ap, _∙_}
 use mathlib.Core.Bool.{Bool, cond}
 use Prim.Native.Nat.{ℕ, _+_, _-_, _≤_}
 use native.Mathlib.Omega.{arith}
-use Rattle.plan_file.specs.PlanFile.{isBad, tally}
+use Rattle.window.specs.Windows.{isBad}
+use Rattle.plan_file.specs.PlanFile.{tally}
 use Rattle.plan_file.specs.Counting.{none-counted, one-more-counted, counted-most}
 use Rattle.plan_file.proofs.searched.Statement.{statement}
 use Rattle.plan_file.proofs.searched.Tie as tie

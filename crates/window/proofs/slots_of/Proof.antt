@@ -5,8 +5,8 @@ use mir.Val.{toZ, ofZ}
 use Rattle.whole.specs.Signed.{signed}
 use Rattle.whole.specs.Truth.{lies-low, lies-high}
 use Rattle.whole.specs.Interval.{Within, Is, is-arg, is-literal, is-mul, is-add, is-times, ask-mul, ask-add, ask-times, within-more}
-use Rattle.plan_file.proofs.slots_of.Statement.{statement}
-use Rattle.plan_file.proofs.slots_of.Tie as tie
+use Rattle.window.proofs.slots_of.Statement.{statement}
+use Rattle.window.proofs.slots_of.Tie as tie
 
 radius : (c : tie.Start) → Is w32 0 3 (toZ w32 (ofZ w32 (c .args .radius))) (c .args .radius)
 radius c =

@@ -3,8 +3,8 @@ use lib.IntN.{pos}
 use mir.Syntax.{w32, w64}
 use mir.Val.{SFits}
 use Rattle.whole.specs.Interval.{word, widened, is-literal, is-sub, is-add, ask-cast, ask-sub, ask-add}
-use Rattle.plan_file.proofs.side_of.Statement.{statement}
-use Rattle.plan_file.proofs.side_of.Tie as tie
+use Rattle.window.proofs.side_of.Statement.{statement}
+use Rattle.window.proofs.side_of.Tie as tie
 
 first-fits : (c : tie.After-struct-told2) → SFits w32 (c .before .before .args .window .first)
 first-fits c = record { sfits = c .struct-told2 .given .0 .1 }

@@ -6,9 +6,9 @@ use mir.Syntax.{w64}
 use Rattle.whole.specs.Truth.{both-alike}
 use Rattle.whole.specs.Signed.{got}
 use Rattle.whole.specs.Interval.{word, widened, is-literal, is-mul, is-add, ask-cast, ask-mul, ask-add}
-use Rattle.plan_file.specs.PlanFile.{isWide, windowWide}
-use Rattle.plan_file.proofs.is_wide.Statement.{statement}
-use Rattle.plan_file.proofs.is_wide.Tie as tie
+use Rattle.window.specs.Windows.{isWide, windowWide}
+use Rattle.window.proofs.is_wide.Statement.{statement}
+use Rattle.window.proofs.is_wide.Tie as tie
 
 alike : {m x y M X Y : ℤ} → m ≡ M → x ≡ X → y ≡ Y → windowWide m x y ≡ windowWide M X Y
 alike p q r = cc
