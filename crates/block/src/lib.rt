@@ -135,7 +135,7 @@ fn axis_of(
     }
 }
 
-fn radius_of(search: Search) -> i32
+pub fn radius_of(search: Search) -> i32
     requires { ⌜ Within 3 3 (search .«search_param») ⌝ }
     ensures { λ r. ⌜ r ≡ radiusOf search ⌝ }
 {

@@ -1,6 +1,5 @@
 -- Values put together of equal parts are equal. Each lemma is over plain variables, where `cc` sees at once what it would have to dig for at a place of the code.
 use mathlib.Core.Path.{_≡_}
-use mathlib.Core.Bool.{Bool, _&&_}
 use lib.IntN.{ℤ}
 use Rattle.plan_file.specs.declared.Trailer.{Trailer}
 use Rattle.plan_file.specs.declared.Head.{Head}
@@ -18,7 +17,3 @@ pub alike-heads : {a b c d e f A B C D E F : ℤ} →
     (record { count = a; searched = b; width = c; height = d; pel = e; slots = f })
     (record { count = A; searched = B; width = C; height = D; pel = E; slots = F })
 alike-heads p₀ p₁ p₂ p₃ p₄ p₅ = cc
-
-pub six-hold : {a b c d e f A B C D E F : Bool} → a ≡ A → b ≡ B → c ≡ C → d ≡ D → e ≡ E → f ≡ F →
-    (a && b && c && d && e && f) ≡ (A && B && C && D && E && F)
-six-hold p q r s t u = cc

@@ -1,14 +1,10 @@
 -- Values put together of equal parts are equal. Each lemma is over plain variables, where `cc` sees at once what it would have to dig for at a place of the code.
 use mathlib.Core.Path.{_≡_}
-use mathlib.Core.Bool.{Bool, _&&_}
 use lib.IntN.{ℤ}
 use Rattle.records.specs.declared.Offset.{Offset}
 use Rattle.records.specs.declared.Pair.{Pair}
 use Rattle.records.specs.declared.Record.{Record}
 use Rattle.records.specs.declared.Words.{Words}
-
-pub five-hold : {a b c d e A B C D E : Bool} → a ≡ A → b ≡ B → c ≡ C → d ≡ D → e ≡ E → (a && b && c && d && e) ≡ (A && B && C && D && E)
-five-hold p q r s t = cc
 
 pub alike-pairs : {a b A B : ℤ} → a ≡ A → b ≡ B → _≡_ {A = Pair} (record { first = a; second = b }) (record { first = A; second = B })
 alike-pairs p q = cc

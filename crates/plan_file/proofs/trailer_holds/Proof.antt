@@ -3,7 +3,7 @@ use borrow.Author.Needs.{needs}
 use mir.Facts.{toZ-ofZ}
 use mir.Syntax.{w32}
 use mir.Val.{SFits}
-use Rattle.plan_file.specs.Alike.{six-hold}
+use Rattle.whole.specs.Truth.{six-alike}
 use Rattle.plan_file.specs.PlanFile.{trailerHolds}
 use Rattle.plan_file.proofs.trailer_holds.Statement.{statement}
 use Rattle.plan_file.proofs.trailer_holds.Tie as tie
@@ -26,7 +26,7 @@ returns c =
     let f5 : SFits w32 (t .radius) = record { sfits = told .1 .1 .1 .1 .1 .0 .1 } in
     let f6 : SFits w32 (t .satd) = record { sfits = told .1 .1 .1 .1 .1 .1 .0 .1 } in
     let f7 : SFits w32 (t .form) = record { sfits = told .1 .1 .1 .1 .1 .1 .1 .0 .1 } in
-    six-hold
+    six-alike
     (simp toZ-ofZ at (lengths .lengths-hold .ensures))
     (simp toZ-ofZ at (block .is-block .ensures))
     (simp toZ-ofZ at (pel .is-pel .ensures))

@@ -3,8 +3,7 @@ use borrow.Author.Needs.{needs}
 use mir.Facts.{toZ-ofZ}
 use mir.Syntax.{w32}
 use mir.Val.{SFits}
-use Rattle.whole.specs.Truth.{both-alike}
-use Rattle.records.specs.Alike.{five-hold}
+use Rattle.whole.specs.Truth.{both-alike, five-alike}
 use Rattle.records.specs.Packing.{recordFits}
 use Rattle.records.proofs.record_fits.Statement.{statement}
 use Rattle.records.proofs.record_fits.Tie as tie
@@ -27,8 +26,8 @@ returns c =
     let g : SFits w32 (o1 .before .before .before .before .before .before .before .before .args .given .flags) = record { sfits = told .1 .1 .1 .1 .1 .1 .1 .1 .1 .1 .1 .1 .0 .1 } in
     both-alike
     (both-alike
-    (five-hold (o1 .offset-fits .ensures) (o2 .offset-fits2 .ensures) (o3 .offset-fits3 .ensures) (o4 .offset-fits4 .ensures) (o5 .offset-fits5 .ensures))
-    (five-hold (p1 .pair-fits .ensures) (p2 .pair-fits2 .ensures) (p3 .pair-fits3 .ensures) (p4 .pair-fits4 .ensures) (p5 .pair-fits5 .ensures)))
+    (five-alike (o1 .offset-fits .ensures) (o2 .offset-fits2 .ensures) (o3 .offset-fits3 .ensures) (o4 .offset-fits4 .ensures) (o5 .offset-fits5 .ensures))
+    (five-alike (p1 .pair-fits .ensures) (p2 .pair-fits2 .ensures) (p3 .pair-fits3 .ensures) (p4 .pair-fits4 .ensures) (p5 .pair-fits5 .ensures)))
     (simp toZ-ofZ at (c .last-fits .ensures))
 
 pub record-fits-spec : {M : Type 1} → statement M

@@ -1,0 +1,97 @@
+-- When planning refuses: 01, "Numbers accepted", its limits and its table. Each `holds` says that a number of the table does not apply. Definitions alone.
+use mathlib.Core.Bool.{Bool, true, false, _&&_, cond}
+use mathlib.Core.List.{List}
+use Prim.Native.Nat.{ℕ, zero, suc, _+_, _*_}
+use lib.Dec.{eqb, leb}
+use lib.IntN.{ℤ, pos, negsuc, natAbs, _+ℤ_, _-ℤ_, _*ℤ_}
+use lib.ListN.{length, getD}
+use lib.Signed.{ltZ, leZ}
+use Rattle.whole.specs.Numbers.{liesIn}
+use Rattle.whole.specs.Tests.{allUpto}
+use Rattle.limits.specs.Limits.{same, isBlock, isGridSide, isStep, isFrameSide, isPel, areShifts, shiftedBy, isComponent}
+use Rattle.plane.specs.declared.Place.{Place}
+use Rattle.plane.specs.Places.{limitsHold, keepsLength}
+use Rattle.block.specs.declared.Sides.{Sides}
+use Rattle.block.specs.declared.Planes.{Planes}
+use Rattle.block.specs.declared.Settings.{Settings}
+use Rattle.passes.specs.Fold.{allFit}
+
+-- the blocks of a grid: the exact product of its sides. One with a side below 2 is refused with 1, whatever its count.
+abbrev pub countOf : Sides → ℕ
+countOf grid = cond (ltZ (grid .x) (pos 2)) 0 (cond (ltZ (grid .y) (pos 2)) 0 (natAbs (grid .x) * natAbs (grid .y)))
+
+-- ---- "1: search not exhaustive, another block size, a grid side below 2, order length not the block count, or radius over 3"
+-- The order is flat, two numbers a block.
+unfoldable pub holds1 : Settings → ℕ → Bool
+holds1 s listed =
+    s .search .exhaustive
+    && isBlock (s .block .x) (s .block .y)
+    && leZ (pos 2) (s .grid .x)
+    && leZ (pos 2) (s .grid .y)
+    && eqb listed (2 * countOf (s .grid))
+    && liesIn (negsuc 2) (pos 3) (s .search .«search_param»)
+
+-- ---- "2: another number outside the limits above .., vector count not the block count"
+-- "Grid sides 2 to 2,048. Steps 1 up to the block's side. Frame sides 2 to 16,384, and the last block of each row and column ends inside the frame."
+unfoldable pub axisHolds : ℤ → ℤ → ℤ → ℤ → Bool
+axisHolds count step side frame =
+    isGridSide count && isStep side step && isFrameSide frame && leZ ((count -ℤ pos 1) *ℤ step +ℤ side) frame
+
+abbrev pub sidesHold : Settings → Bool
+sidesHold s =
+    axisHolds (s .grid .x) (s .step .x) (s .block .x) (s .planes .luma .width)
+    && axisHolds (s .grid .y) (s .step .y) (s .block .y) (s .planes .luma .height)
+
+-- "chroma sides are the luma sides shifted right"
+unfoldable pub chromaHolds : Place → Sides → Place → Bool
+chromaHolds luma shift place = same (shiftedBy (luma .width) (shift .x)) (place .width) && same (shiftedBy (luma .height) (shift .y)) (place .height)
+
+unfoldable pub planesHold : Planes → Sides → Bool
+planesHold p shift =
+    limitsHold (p .luma) && limitsHold (p .u) && limitsHold (p .v) && chromaHolds (p .luma) shift (p .u) && chromaHolds (p .luma) shift (p .v)
+
+-- "Pel 1, 2 or 4. Chroma shifts (0,0), (1,0) or (1,1)". The vectors are flat, three numbers a block.
+unfoldable pub holds2 : Settings → ℕ → Bool
+holds2 s held =
+    sidesHold s && isPel (s .level .pel) && areShifts (s .shift .x) (s .shift .y) && planesHold (s .planes) (s .shift) && eqb held (3 * countOf (s .grid))
+
+-- "Vector components fit i16." Also those of blocks that the order never names.
+unfoldable pub vectorFits : List ℤ → ℕ → Bool
+vectorFits vectors i = isComponent (getD vectors (3 * i) (pos 0)) && isComponent (getD vectors (3 * i + 1) (pos 0))
+
+abbrev pub vectorsFit : List ℤ → ℕ → Bool
+vectorsFit vectors n = allUpto (vectorFits vectors) n
+
+-- ---- "3: a plane breaks its length rule"
+unfoldable pub holds3 : Planes → ℕ → ℕ → ℕ → Bool
+holds3 p luma u v = keepsLength (p .luma) luma && keepsLength (p .u) u && keepsLength (p .v) v
+
+-- ---- "4: an order entry .. outside the grid given"
+unfoldable pub entryHolds : Sides → List ℤ → ℕ → Bool
+entryHolds grid order i =
+    leZ (pos 0) (getD order (2 * i) (pos 0))
+    && ltZ (getD order (2 * i) (pos 0)) (grid .x)
+    && leZ (pos 0) (getD order (2 * i + 1) (pos 0))
+    && ltZ (getD order (2 * i + 1) (pos 0)) (grid .y)
+
+abbrev pub orderHolds : Sides → List ℤ → ℕ → Bool
+orderHolds grid order n = allUpto (entryHolds grid order) n
+
+-- ---- "5: a lent output is too short": 12 words and an index a block
+abbrev pub hasRoom : ℕ → ℕ → ℕ → Bool
+hasRoom n words indices = leb (12 * n) words && leb n indices
+
+-- ---- "If several apply, the lowest is given". 6: "in planning .., a record doesn't fit"
+abbrev pub unless : Bool → ℕ → ℕ → ℕ
+unless true number rest = rest
+unless false number rest = number
+
+unfoldable pub refusalOf : Settings → List ℤ → List ℤ → ℕ → ℕ → ℕ → ℕ → ℕ → ℕ
+refusalOf s order vectors luma u v words indices =
+    let n = countOf (s .grid) in
+    unless (holds1 s (length order)) 1
+    (unless (holds2 s (length vectors) && vectorsFit vectors n) 2
+    (unless (holds3 (s .planes) luma u v) 3
+    (unless (orderHolds (s .grid) order n) 4
+    (unless (hasRoom n words indices) 5
+    (unless (allFit s order vectors n) 6 0)))))
