@@ -1,0 +1,6 @@
+pub mod Choosing
+pub mod Bounds
+pub mod Fields
+pub mod Tables
+pub mod Answers
+pub mod Examples
