@@ -1,0 +1,29 @@
+-- Each line leads further into the text. Assumes nothing.
+use borrow.Author.Needs.{needs}
+use mathlib.Core.Path.{_≡_}
+use Prim.Native.Nat.{_-_}
+use lib.ListN.{length}
+use Rattle.replay_finishing.proofs.replay.Statement.{statement}
+use Rattle.replay_finishing.proofs.replay.Tie as tie
+
+abbrev Inv-loop : tie.InvT-loop
+Inv-loop text numbers₀ tally₀ at₀ numbers tally at = length numbers ≡ 400
+
+abbrev μ-loop : tie.MeasureT-loop
+μ-loop text numbers₀ tally₀ at₀ numbers tally at = length text - at
+
+pub replay-spec : {M : Type 1} → statement M
+replay-spec =
+    tie.close
+    (tie.spec
+    Inv-loop
+    μ-loop
+    (λ c κs. search needs)
+    (λ c. search needs)
+    (λ c. search needs)
+    (λ c κs. search needs)
+    (λ c κs. search needs)
+    (λ c κs. search needs)
+    (λ c. search needs)
+    (λ c. search needs)
+    (λ c. search needs))
