@@ -1,12 +1,12 @@
 -- What passing the tests says: the refusals leave all that the two passes ask. Assumes nothing.
 use mathlib.Core.Path.{_≡_, refl, sym, ap, subst, _∙_}
-use mathlib.Core.Bool.{Bool, true, false, _&&_, _||_, cond}
+use mathlib.Core.Bool.{Bool, true, false, _&&_, _||_, not, cond}
 use mathlib.Core.List.{List}
 use mathlib.Core.Logic.{⊎-elim}
 use Prim.Native.Nat.{ℕ, zero, suc, _+_, _*_, _≤_, _<_}
 use native.Mathlib.Nat.{mul-le-mul, mul-comm}
 use native.Mathlib.Omega.{arith}
-use borrow.Author.Tests.{leb-true, eqb-true}
+use borrow.Author.Tests.{leb-true, eqb-true, not-false}
 use lib.Dec.{eqb, leb, lit<}
 use lib.IntN.{ℤ, pos, negsuc, natAbs, _+ℤ_, _-ℤ_, _*ℤ_}
 use lib.ListN.{length, getD}
@@ -18,6 +18,8 @@ use Rattle.whole.specs.Tests.{allUpto, each-of}
 use Rattle.whole.specs.Floor.{floor-low, floor-high}
 use Rattle.whole.specs.Interval.{Within}
 use Rattle.limits.specs.Limits.{same, isBlock, isGridSide, isStep, isFrameSide, isPel, areShifts, shiftedBy, isLength, isComponent, greatestLength}
+use Rattle.limits.specs.Refusals.{first}
+use Rattle.limits.specs.Refused.{first-passed}
 use Rattle.score.specs.declared.Answer.{Answer}
 use Rattle.score.specs.declared.Answer.the-variants.{Is}
 use Rattle.score.specs.declared.Answer.the-variants as diagonal
@@ -33,8 +35,8 @@ use Rattle.passes.specs.Fold.{indexAt, blockAt, allFit}
 use Rattle.passes.specs.Asked.{Listed, Serves, Served}
 use Rattle.planning.specs.declared.Made.{Made}
 use Rattle.planning.specs.declared.Planned.the-variants.{Done, Refused}
-use Rattle.planning.specs.Planned.{answered, kept}
-use Rattle.planning.specs.Refusals.{countOf, holds1, axisHolds, sidesHold, chromaHolds, planesHold, holds2, vectorFits, vectorsFit, holds3, entryHolds, orderHolds, hasRoom, unless, refusalOf}
+use Rattle.planning.specs.Planned.{answered}
+use Rattle.planning.specs.Refusals.{countOf, holds1, axisHolds, sidesHold, chromaHolds, planesHold, holds2, vectorFits, vectorsFit, holds3, entryHolds, orderHolds, hasRoom, refusalOf}
 
 -- ---- a number from least to greatest, both ways of saying it
 lies : (least greatest z : ℤ) → liesIn least greatest z ≡ true → (least ≤ℤ z) × (z ≤ℤ greatest)
@@ -302,9 +304,8 @@ framed s listed held e f =
         rw (a, b)
 
 -- ---- the chain: 0 where every test holds
-unless-none : (t : Bool) (k rest : ℕ) → unless t (suc k) rest ≡ 0 → (t ≡ true) × (rest ≡ 0)
-unless-none true k rest e = (refl, e)
-unless-none false k rest e = absurd (omega arith)
+passed : (t : Bool) (k rest : ℕ) → first (not t) (1 + k) rest ≡ 0 → (t ≡ true) × (rest ≡ 0)
+passed t k rest e = let both = first-passed (not t) k rest e in (not-false t (both .0), both .1)
 
 pub record Accepted (s : Settings) (order vectors : List ℤ) (words indices : ℕ) : Type 0 where
   pub serves : Served s order vectors (countOf (s .grid))
@@ -317,12 +318,12 @@ pub accepted : (s : Settings) (order vectors : List ℤ) (luma u v words indices
 unfolding refusalOf
 accepted s order vectors luma u v words indices e =
     let n = countOf (s .grid) in
-    let t₁ = unless-none (holds1 s (length order)) 0 _ e in
-    let t₂ = unless-none (holds2 s (length vectors) && vectorsFit vectors n) 1 _ (t₁ .1) in
-    let t₃ = unless-none (holds3 (s .planes) luma u v) 2 _ (t₂ .1) in
-    let t₄ = unless-none (orderHolds (s .grid) order n) 3 _ (t₃ .1) in
-    let t₅ = unless-none (hasRoom n words indices) 4 _ (t₄ .1) in
-    let t₆ = unless-none (allFit s order vectors n) 5 _ (t₅ .1) in
+    let t₁ = passed (holds1 s (length order)) 0 _ e in
+    let t₂ = passed (holds2 s (length vectors) && vectorsFit vectors n) 1 _ (t₁ .1) in
+    let t₃ = passed (holds3 (s .planes) luma u v) 2 _ (t₂ .1) in
+    let t₄ = passed (orderHolds (s .grid) order n) 3 _ (t₃ .1) in
+    let t₅ = passed (hasRoom n words indices) 4 _ (t₄ .1) in
+    let t₆ = passed (allFit s order vectors n) 5 _ (t₅ .1) in
     let two = left-of (holds2 s (length vectors)) (vectorsFit vectors n) (t₂ .0) in
     record {
       serves = served s order vectors luma u v (t₁ .0) two (right-of (holds2 s (length vectors)) (vectorsFit vectors n) (t₂ .0)) (t₃ .0) (t₄ .0);
@@ -352,13 +353,6 @@ module _ (width height pel : ℤ) (fits : frameFits width height pel ≡ true) w
 pub answered-refused : (n : ℕ) (made : Made) → (n ≡ 0 → ⊥) → Refused n ≡ answered n made
 answered-refused zero made h = absurd (h refl)
 answered-refused (suc n) made h = refl
-
-pub kept-refused : (n : ℕ) (new old : List ℤ) → (n ≡ 0 → ⊥) → old ≡ kept n new old
-kept-refused zero new old h = absurd (h refl)
-kept-refused (suc n) new old h = refl
-
-pub kept-done : {n : ℕ} (new old : List ℤ) → n ≡ 0 → kept n new old ≡ new
-kept-done new old e = rw e
 
 pub answered-done : {n : ℕ} (made : Made) → n ≡ 0 → answered n made ≡ Done made
 answered-done made e = rw e

@@ -3,6 +3,7 @@ use mathlib.Core.List.{List, _++_}
 use Prim.Native.Nat.{ℕ, zero, suc, _*_}
 use lib.IntN.{ℤ}
 use lib.ListN.{length, drop}
+use Rattle.limits.specs.Refusals.{kept}
 use Rattle.window.specs.Windows.{slotsOf}
 use Rattle.score.specs.Diagonal.{diagonalOf}
 use Rattle.block.specs.declared.Settings.{Settings}
@@ -29,10 +30,6 @@ planNumber (Done made) = 0
 planNumber (Refused number) = number
 
 -- "A refusal returns the number and changes nothing lent .. a longer buffer keeps its tail."
-abbrev pub kept : ℕ → List ℤ → List ℤ → List ℤ
-kept zero new old = new
-kept (suc n) new old = old
-
 module _ (s : Settings) (order vectors : List ℤ) (luma u v : ℕ) where
   unfoldable pub planAnswer : ℕ → ℕ → Planned
   planAnswer words indices = answered (refusalOf s order vectors luma u v words indices) (madeOf s)

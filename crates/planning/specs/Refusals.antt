@@ -1,7 +1,7 @@
 -- When planning refuses: 01, "Numbers accepted", its limits and its table. Each `holds` says that a number of the table does not apply. Definitions alone.
-use mathlib.Core.Bool.{Bool, true, false, _&&_, cond}
+use mathlib.Core.Bool.{Bool, _&&_, not, cond}
 use mathlib.Core.List.{List}
-use Prim.Native.Nat.{ℕ, zero, suc, _+_, _*_}
+use Prim.Native.Nat.{ℕ, _+_, _*_}
 use lib.Dec.{eqb, leb}
 use lib.IntN.{ℤ, pos, negsuc, natAbs, _+ℤ_, _-ℤ_, _*ℤ_}
 use lib.ListN.{length, getD}
@@ -9,6 +9,7 @@ use lib.Signed.{ltZ, leZ}
 use Rattle.whole.specs.Numbers.{liesIn}
 use Rattle.whole.specs.Tests.{allUpto}
 use Rattle.limits.specs.Limits.{same, isBlock, isGridSide, isStep, isFrameSide, isPel, areShifts, shiftedBy, isComponent}
+use Rattle.limits.specs.Refusals.{first}
 use Rattle.plane.specs.declared.Place.{Place}
 use Rattle.plane.specs.Places.{limitsHold, keepsLength}
 use Rattle.block.specs.declared.Sides.{Sides}
@@ -82,16 +83,12 @@ abbrev pub hasRoom : ℕ → ℕ → ℕ → Bool
 hasRoom n words indices = leb (12 * n) words && leb n indices
 
 -- ---- "If several apply, the lowest is given". 6: "in planning .., a record doesn't fit"
-abbrev pub unless : Bool → ℕ → ℕ → ℕ
-unless true number rest = rest
-unless false number rest = number
-
 unfoldable pub refusalOf : Settings → List ℤ → List ℤ → ℕ → ℕ → ℕ → ℕ → ℕ → ℕ
 refusalOf s order vectors luma u v words indices =
     let n = countOf (s .grid) in
-    unless (holds1 s (length order)) 1
-    (unless (holds2 s (length vectors) && vectorsFit vectors n) 2
-    (unless (holds3 (s .planes) luma u v) 3
-    (unless (orderHolds (s .grid) order n) 4
-    (unless (hasRoom n words indices) 5
-    (unless (allFit s order vectors n) 6 0)))))
+    first (not (holds1 s (length order))) 1
+    (first (not (holds2 s (length vectors) && vectorsFit vectors n)) 2
+    (first (not (holds3 (s .planes) luma u v)) 3
+    (first (not (orderHolds (s .grid) order n)) 4
+    (first (not (hasRoom n words indices)) 5
+    (first (not (allFit s order vectors n)) 6 0)))))

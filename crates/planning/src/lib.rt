@@ -104,7 +104,7 @@ fn chroma_holds(luma: Place, shift: Sides, place: Place) -> bool
     whole::within(chroma_w, w, w) & whole::within(chroma_h, h, h)
 }
 
-fn planes_hold(planes: Planes, shift: Sides) -> bool
+pub fn planes_hold(planes: Planes, shift: Sides) -> bool
     ensures { λ r. ⌜ r ≡ planesHold planes shift ⌝ }
 {
     let luma = planes.luma;
@@ -157,7 +157,7 @@ fn vectors_fit(vectors: &[i32], n: usize) -> bool
     all
 }
 
-fn holds_3(planes: Planes, luma: usize, u: usize, v: usize) -> bool
+pub fn holds_3(planes: Planes, luma: usize, u: usize, v: usize) -> bool
     ensures { λ r. ⌜ r ≡ holds3 planes luma u v ⌝ }
 {
     let place_luma = planes.luma;

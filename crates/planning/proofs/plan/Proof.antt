@@ -2,15 +2,17 @@
 use borrow.Author.Needs.{needs}
 use mathlib.Core.Path.{_≡_, refl, sym, ap, _∙_}
 use mathlib.Core.List.{List, _++_}
-use Prim.Native.Nat.{ℕ, _*_}
+use Prim.Native.Nat.{ℕ, _*_, _<_}
 use native.Mathlib.Omega.{arith}
 use lib.IntN.{ℤ}
 use lib.ListN.{length, drop}
 use Rattle.passes.specs.Fold.{wordsUpto, indicesUpto}
 use Rattle.planning.specs.declared.Planned.the-variants.{Done}
 use Rattle.planning.specs.Refusals.{countOf, refusalOf}
-use Rattle.planning.specs.Planned.{answered, kept, madeOf, planAnswer, planRecords, planIndices}
-use Rattle.planning.specs.Accepted.{Accepted, accepted, answered-refused, answered-done, kept-refused, kept-done}
+use Rattle.limits.specs.Refusals.{kept}
+use Rattle.limits.specs.Refused.{kept-refused, kept-done}
+use Rattle.planning.specs.Planned.{answered, madeOf, planAnswer, planRecords, planIndices}
+use Rattle.planning.specs.Accepted.{Accepted, accepted, answered-refused, answered-done}
 use Rattle.planning.proofs.plan.Statement.{statement}
 use Rattle.planning.proofs.plan.Tie as tie
 
@@ -21,12 +23,13 @@ returns c =
     let n = c .before .refusal .result in
     let e = c .before .refusal .ensures in
     let k = countOf (a .s .grid) in
+    let some : 0 < n = omega (arith, c .if1 .taken) in
     let words = wordsUpto (a .s) (a .order .now) (a .vectors .now) k ++ drop (12 * k) (a .records .now) in
     let indices = indicesUpto (a .s) (a .order .now) (a .vectors .now) k ++ drop k (a .indices .now) in (
       answered-refused n (madeOf (a .s)) (c .if1 .taken) ∙ ap (λ (m : ℕ). answered m (madeOf (a .s))) e,
       (
-        kept-refused n words (a .records .now) (c .if1 .taken) ∙ ap (λ (m : ℕ). kept m words (a .records .now)) e,
-        kept-refused n indices (a .indices .now) (c .if1 .taken) ∙ ap (λ (m : ℕ). kept m indices (a .indices .now)) e,
+        sym (kept-refused n words (a .records .now) some) ∙ ap (λ (m : ℕ). kept m words (a .records .now)) e,
+        sym (kept-refused n indices (a .indices .now) some) ∙ ap (λ (m : ℕ). kept m indices (a .indices .now)) e,
       ),
     )
 
@@ -61,8 +64,8 @@ returns-2 c =
     let w = c .before .before .before .write-all .ensures in (
       ap Done (c .made-of .ensures) ∙ sym (answered-done (madeOf (a .s)) z),
       (
-        w .0 ∙ ap (λ (k : ℕ). wordsUpto (a .s) (a .order .now) (a .vectors .now) k ++ drop (12 * k) (a .records .now)) e ∙ sym (kept-done _ (a .records .now) z),
-        w .1 ∙ ap (λ (k : ℕ). indicesUpto (a .s) (a .order .now) (a .vectors .now) k ++ drop k (a .indices .now)) e ∙ sym (kept-done _ (a .indices .now) z),
+        w .0 ∙ ap (λ (k : ℕ). wordsUpto (a .s) (a .order .now) (a .vectors .now) k ++ drop (12 * k) (a .records .now)) e ∙ sym (kept-done _ _ (a .records .now) z),
+        w .1 ∙ ap (λ (k : ℕ). indicesUpto (a .s) (a .order .now) (a .vectors .now) k ++ drop k (a .indices .now)) e ∙ sym (kept-done _ _ (a .indices .now) z),
       ),
     )
 
