@@ -1,0 +1,2 @@
+pub mod RecordSlice
+pub mod ReadBack

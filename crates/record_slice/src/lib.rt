@@ -1,0 +1,64 @@
+// Records as they stand in a lent slice, 12 words each, and refusal 7 asked of all of them.
+use records::Record;
+use records::Words;
+ghost use mathlib.Core.Path.{_≡_};
+ghost use mathlib.Core.Bool.{true};
+ghost use Prim.Native.Nat.{_+_, _*_, _≤_};
+ghost use lib.ListN.{length};
+ghost use Rattle.records.specs.Packing.{pairsFit};
+ghost use Rattle.records.specs.RoundTrip.{Held};
+ghost use Rattle.record_slice.specs.RecordSlice.{wordsFrom, recordAt, anyWide};
+
+fn words_from(records: &[i32], at: usize) -> Words
+    requires { ⌜ at + 12 ≤ length (now records) ⌝ }
+    ensures { λ r. ⌜ r ≡ wordsFrom (now (records .entry)) at ⌝ }
+    ensures { λ r. ⌜ Held r ⌝ }
+{
+    let full = records[at];
+    let overlay = records[at + 1];
+    let u = records[at + 2];
+    let v = records[at + 3];
+    let average = records[at + 4];
+    let pos = records[at + 5];
+    let cpos = records[at + 6];
+    let predictor = records[at + 7];
+    let window_x = records[at + 8];
+    let window_y = records[at + 9];
+    let sad = records[at + 10];
+    let last = records[at + 11];
+    Words {
+        full: full,
+        overlay: overlay,
+        u: u,
+        v: v,
+        average: average,
+        pos: pos,
+        cpos: cpos,
+        predictor: predictor,
+        window_x: window_x,
+        window_y: window_y,
+        sad: sad,
+        last: last,
+    }
+}
+
+pub fn record_at(records: &[i32], i: usize) -> Record
+    requires { ⌜ 12 * i + 12 ≤ length (now records) ⌝ }
+    ensures { λ r. ⌜ r ≡ recordAt (now (records .entry)) i ⌝ }
+    ensures { λ r. ⌜ pairsFit r ≡ true ⌝ }
+{
+    records::unpack_record(words_from(records, 12 * i))
+}
+
+pub fn any_wide(records: &[i32], radius: i32, n: usize) -> bool
+    requires { ⌜ 12 * n ≤ length (now records) ⌝ }
+    ensures { λ r. ⌜ r ≡ anyWide radius (now (records .entry)) n ⌝ }
+{
+    let mut wide = false;
+    let mut i: usize = 0;
+    while i < n {
+        wide = wide | window::is_wide(record_at(records, i), radius);
+        i += 1;
+    }
+    wide
+}
