@@ -102,14 +102,14 @@ along a s low high =
     }
 
 -- ---- the planes
-shifted-least : (z s : ℤ) → pos 2 ≤ℤ z → z ≤ℤ pos 16384 → (pos 1 ≤ℤ shiftedBy z s) × (shiftedBy z s ≤ℤ pos 16384)
+pub shifted-least : (z s : ℤ) → pos 2 ≤ℤ z → z ≤ℤ pos 16384 → (pos 1 ≤ℤ shiftedBy z s) × (shiftedBy z s ≤ℤ pos 16384)
 shifted-least z s low high = by (ltZ s (pos 1))
   where
     by : (t : Bool) → (pos 1 ≤ℤ cond t z (shrZ z 2)) × (cond t z (shrZ z 2) ≤ℤ pos 16384)
     by true = (omega signed, omega signed)
     by false = (omega (signed, floor-low {m = 2} (lit< tt) z, floor-high {m = 2} (lit< tt) z), omega (signed, floor-low {m = 2} (lit< tt) z, floor-high {m = 2} (lit< tt) z))
 
-same-of : (x y : ℤ) → same x y ≡ true → y ≡ x
+pub same-of : (x y : ℤ) → same x y ≡ true → y ≡ x
 same-of x y e =
     let low = lies-low x x y e in
     let high = lies-high x x y e in

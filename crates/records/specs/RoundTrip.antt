@@ -13,7 +13,7 @@ use mir.Syntax.{w16, w32}
 use mir.Val.{SFits, toZ}
 use Rattle.whole.specs.Numbers.{liesIn, modZ, wrapped}
 use Rattle.whole.specs.Signed.{signed, range, add-is, times-is, holds}
-use Rattle.whole.specs.Truth.{left-of, right-of, both-of, lies-low, lies-high}
+use Rattle.whole.specs.Truth.{left-of, right-of, both-of, lies-low, lies-high, five-of}
 use Rattle.whole.specs.Floor.{floor-is, floor-low, floor-high, mod-below, floor-only, mod-only, mod-more}
 use Rattle.whole.specs.Wrapping.{wrapped-is, wrapped-same, wrapped-fits}
 use Rattle.records.specs.declared.Offset.{Offset}
@@ -140,21 +140,8 @@ last-of-word word =
     and-true (lambdaFits (shrZ word 4)) (both-of low high)
 
 -- ---- records
-record Five (a b c d e : Bool) : Type 0 where
-  one : a ≡ true
-  two : b ≡ true
-  three : c ≡ true
-  four : d ≡ true
-  five : e ≡ true
-
-five-of : (a b c d e : Bool) → (a && b && c && d && e) ≡ true → Five a b c d e
-five-of a b c d e h =
-    let l = left-of (a && b && c && d) e h in
-    let k = left-of (a && b && c) d l in
-    let j = left-of (a && b) c k in
-    record { one = left-of a b j; two = right-of a b j; three = right-of (a && b) c k; four = right-of (a && b && c) d l; five = right-of (a && b && c && d) e h }
-
-back : (r : Record) → recordFits r ≡ true → recordOf (recordWords r) ≡ r
+-- a record that fits is read back from its words
+pub back : (r : Record) → recordFits r ≡ true → recordOf (recordWords r) ≡ r
 unfolding recordFits recordWords recordOf
 back r fits =
     let parts = left-of (offsetsFit r && pairsFit r) (lastFits (r .lambda) (r .flags)) fits in
@@ -162,16 +149,16 @@ back r fits =
     let p = five-of (pairFits (r .pos)) (pairFits (r .cpos)) (pairFits (r .predictor)) (pairFits (r .«window_x»)) (pairFits (r .«window_y»)) (right-of (offsetsFit r) (pairsFit r) parts) in
     let l = last-back (r .lambda) (r .flags) (right-of (offsetsFit r && pairsFit r) (lastFits (r .lambda) (r .flags)) fits) in
     alike-records
-    (offset-back (r .full) (o .one))
-    (offset-back (r .overlay) (o .two))
-    (offset-back (r .u) (o .three))
-    (offset-back (r .v) (o .four))
-    (offset-back (r .average) (o .five))
-    (pair-back (r .pos) (p .one))
-    (pair-back (r .cpos) (p .two))
-    (pair-back (r .predictor) (p .three))
-    (pair-back (r .«window_x») (p .four))
-    (pair-back (r .«window_y») (p .five))
+    (offset-back (r .full) (o .0))
+    (offset-back (r .overlay) (o .1))
+    (offset-back (r .u) (o .2))
+    (offset-back (r .v) (o .3))
+    (offset-back (r .average) (o .4))
+    (pair-back (r .pos) (p .0))
+    (pair-back (r .cpos) (p .1))
+    (pair-back (r .predictor) (p .2))
+    (pair-back (r .«window_x») (p .3))
+    (pair-back (r .«window_y») (p .4))
     refl (l .high) (l .low)
 
 by-fit : (t : Bool) {r : Record} {w : Words} → recordFits r ≡ t → pick t (answers.Fits (recordWords r)) answers.Misfit ≡ answers.Fits w → recordOf w ≡ r

@@ -1,0 +1,4 @@
+pub mod Windows
+pub mod Sources
+pub mod ReadBack
+pub mod NeverWide

@@ -1,0 +1,1 @@
+// Theorems alone, about the records that planning makes: see specs/.
