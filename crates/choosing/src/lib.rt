@@ -46,7 +46,7 @@ pub fn along(least: i32, n: usize) -> i32
     least + n as i32
 }
 
-fn columns_of(choice: Choice) -> usize
+pub fn columns_of(choice: Choice) -> usize
     requires { ⌜ Ranged choice ⌝ }
     ensures { λ r. ⌜ r ≡ columnsOf choice ⌝ }
 {
@@ -56,7 +56,7 @@ fn columns_of(choice: Choice) -> usize
 }
 
 // Without columns there are up to 65,536 rows, and nothing in them.
-fn rows_of(choice: Choice, columns: usize) -> usize
+pub fn rows_of(choice: Choice, columns: usize) -> usize
     requires { ⌜ Ranged choice × (columns ≡ columnsOf choice) ⌝ }
     ensures { λ r. ⌜ r ≡ rowsOf choice ⌝ }
 {
@@ -68,7 +68,7 @@ fn rows_of(choice: Choice, columns: usize) -> usize
     count(least, greatest)
 }
 
-fn x_at(choice: Choice, i: usize) -> i32
+pub fn x_at(choice: Choice, i: usize) -> i32
     requires { ⌜ Ranged choice × (i < 65536) ⌝ }
     ensures { λ r. ⌜ r ≡ choice .«least_x» +ℤ pos i ⌝ }
 {
@@ -76,7 +76,7 @@ fn x_at(choice: Choice, i: usize) -> i32
     along(least, i)
 }
 
-fn y_at(choice: Choice, j: usize) -> i32
+pub fn y_at(choice: Choice, j: usize) -> i32
     requires { ⌜ Ranged choice × (j < 65536) ⌝ }
     ensures { λ r. ⌜ r ≡ choice .«least_y» +ℤ pos j ⌝ }
 {

@@ -1,0 +1,108 @@
+-- Three ways out: a bad block that is negative, a bad plain one, and one that isn't bad. Assumes nothing.
+use borrow.Author.Needs.{needs}
+use mathlib.Core.Path.{_≡_, sym, ap, _∙_}
+use mathlib.Core.Bool.{true, false, cond}
+use mathlib.Core.List.{List}
+use Prim.Native.Nat.{ℕ, _<_}
+use native.Mathlib.Omega.{arith}
+use lib.IntN.{ℤ}
+use lib.ListN.{getD}
+use mir.Syntax.{w32}
+use mir.Val.{toZ, ofZ}
+use Rattle.whole.specs.Signed.{got}
+use Rattle.window.specs.Windows.{isBad, isNegative}
+use Rattle.records.specs.declared.Record.{Record}
+use Rattle.choosing.specs.declared.Chosen.{Chosen}
+use Rattle.choosing.specs.Bounds.{Small}
+use Rattle.tables.specs.Laws.{most-zeros, most-small}
+use Rattle.best.specs.declared.Task.{Task}
+use Rattle.best.specs.Best.{averageAt, withAverage, answered, noTable, lumaTable, chromaTable, bestOf}
+use Rattle.best.specs.Laws.{luma-most, chroma-most, not-looked-at}
+use Rattle.best.proofs.best_of.Statement.{statement}
+use Rattle.best.proofs.best_of.Tie as tie
+
+-- of two chroma tables the definition takes the one that the code makes
+with-none : (task : Task) (given : Record) (lumas chromas : List ℕ) (average : ℤ) → isNegative given ≡ true → answered task given lumas noTable average ≡ answered task given lumas (cond (isNegative given) noTable chromas) average
+with-none task given lumas chromas average e = simp e
+
+with-chroma : (task : Task) (given : Record) (lumas chromas : List ℕ) (average : ℤ) → isNegative given ≡ false → answered task given lumas chromas average ≡ answered task given lumas (cond (isNegative given) noTable chromas) average
+with-chroma task given lumas chromas average e = simp e
+
+bad : (c : tie.Then1) → isBad (c .before .before .before .before .before .before .before .before .before .args .given) ≡ true
+bad c = sym (c .before .is-bad .ensures) ∙ c .if1 .taken
+
+average-is : (c : tie.After-average-of) → toZ w32 (ofZ w32 (c .average-of .result)) ≡ averageAt (c .before .before .before .before .before .before .before .args .task) (c .before .before .before .before .before .before .before .args .given) (c .before .before .before .before .before .before .before .args .luma .now)
+average-is c = got w32 (c .average-of .ok) (c .average-of .ensures)
+
+luma-table-requires : tie.Need-luma-table-requires
+luma-table-requires c κs = (c .before .before .before .before .before .before .before .before .before .pre, bad c)
+
+lumas-small : (c : tie.After-luma-table) → Small (c .luma-table .result)
+lumas-small c =
+    let s = c .before .before .before .before .before .before .before .before .before .before .args in
+    rw (c .luma-table .ensures)
+    (most-small (luma-most (c .before .before .before .before .before .before .before .before .before .before .pre) (s .luma .now) (s .reference-luma .now) (λ n. omega (arith, c .before .before .before .before .before .before .before .before .before .shared-slice-known .given n)) (λ n. omega (arith, c .before .before .before .before .before .before .shared-slice-known4 .given n))) (omega arith))
+
+none-small : Small noTable
+none-small = most-small (most-zeros 0) (omega arith)
+
+answer-requires : tie.Need-answer-requires
+answer-requires c κs = (c .before .before .before .before .before .before .before .before .before .before .before .before .before .before .pre, (lumas-small (c .before .before .before .before), none-small))
+
+returns : tie.Need-returns
+unfolding bestOf
+returns c =
+    let yes : isNegative (c .before .before .before .before .before .before .before .before .before .before .before .before .before .before .before .args .given) ≡ true = sym (c .before .before .before .before .is-negative .ensures) ∙ c .before .before .before .if2 .taken in
+    rw (average-is (c .before .before .before .before .before .before .before .before), c .before .before .before .before .before .luma-table .ensures) at (c .answer .ensures)
+    ∙ with-none (c .before .before .before .before .before .before .before .before .before .before .before .before .before .before .before .args .task) (c .before .before .before .before .before .before .before .before .before .before .before .before .before .before .before .args .given) _ _ _ yes
+
+chroma-table-requires : tie.Need-chroma-table-requires
+chroma-table-requires c κs = (c .before .before .before .before .before .before .before .before .before .before .before .before .pre, bad (c .before .before .before))
+
+chromas-small : (c : tie.After-chroma-table) → Small (c .chroma-table .result)
+chromas-small c =
+    let s = c .before .before .before .before .before .before .before .before .before .before .before .before .before .args in
+    rw (c .chroma-table .ensures)
+    (most-small (chroma-most (c .before .before .before .before .before .before .before .before .before .before .before .before .before .pre) (s .u .now) (s .v .now) (s .reference-u .now) (s .reference-v .now)
+    (λ n. omega (arith, c .before .before .before .before .before .before .before .before .before .before .before .shared-slice-known2 .given n))
+    (λ n. omega (arith, c .before .before .before .before .before .before .before .before .before .before .shared-slice-known3 .given n))
+    (λ n. omega (arith, c .before .before .before .before .before .before .before .before .shared-slice-known5 .given n))
+    (λ n. omega (arith, c .before .before .before .before .before .before .before .shared-slice-known6 .given n)))
+    (omega arith))
+
+answer-requires-2 : tie.Need-answer-requires-2
+answer-requires-2 c κs = (c .before .before .before .before .before .before .before .before .before .before .before .before .before .before .before .pre, (lumas-small (c .before .before .before .before .before), chromas-small (c .before .before)))
+
+returns-2 : tie.Need-returns-2
+unfolding bestOf
+returns-2 c =
+    let no : isNegative (c .before .before .before .before .before .before .before .before .before .before .before .before .before .before .before .before .args .given) ≡ false = sym (c .before .before .before .before .before .is-negative .ensures) ∙ c .before .before .before .before .if2 .left in
+    rw (average-is (c .before .before .before .before .before .before .before .before .before), c .before .before .before .before .before .before .luma-table .ensures, c .before .before .before .chroma-table .ensures) at (c .answer2 .ensures)
+    ∙ with-chroma (c .before .before .before .before .before .before .before .before .before .before .before .before .before .before .before .before .args .task) (c .before .before .before .before .before .before .before .before .before .before .before .before .before .before .before .before .args .given) _ _ _ no
+
+answer-requires-3 : tie.Need-answer-requires-3
+answer-requires-3 c κs = (c .before .before .before .before .before .before .before .before .before .before .before .pre, (none-small, none-small))
+
+returns-3 : tie.Need-returns-3
+unfolding bestOf
+returns-3 c =
+    let s = c .before .before .before .before .before .before .before .before .before .before .before .before .args in
+    let no : isBad (s .given) ≡ false = sym (c .before .before .before .before .is-bad .ensures) ∙ c .before .before .before .if1 .left in
+    rw (average-is (c .before .before .before .before .before)) at (c .answer3 .ensures)
+    ∙ ap (λ (z : Chosen). withAverage (s .task) (s .given) z (averageAt (s .task) (s .given) (s .luma .now))) (not-looked-at _ _ _ _ _ _ _ _ no)
+
+pub best-of-spec : {M : Type 1} → statement M
+best-of-spec =
+    tie.close
+    (tie.spec
+    (λ c κs. search needs)
+    (λ c κs. search needs)
+    luma-table-requires
+    (λ c κs. search needs)
+    answer-requires
+    returns
+    chroma-table-requires
+    answer-requires-2
+    returns-2
+    answer-requires-3
+    returns-3)

@@ -1,0 +1,187 @@
+-- What `Fair` leaves of a block's numbers, and how large its costs are. Assumes nothing.
+use mathlib.Core.Path.{_≡_, refl, sym}
+use mathlib.Core.Bool.{Bool, true, false, cond, _&&_, _||_}
+use mathlib.Core.List.{List}
+use mathlib.Core.Logic.{⊎-elim}
+use Prim.Native.Nat.{ℕ, zero, suc, _+_, _*_, _/_, _^_, _≤_, _<_}
+use native.Mathlib.Omega.{arith}
+use lib.IntN.{ℤ, pos, negsuc, natAbs}
+use lib.ListN.{getD}
+use lib.Signed.{ltZ, shrZ}
+use Rattle.whole.specs.Numbers.{liesIn}
+use Rattle.whole.specs.Signed.{signed, holds}
+use Rattle.whole.specs.Truth.{left-of, right-of, either-of, lies-low, lies-high, five-of}
+use Rattle.whole.specs.Interval.{Within, within-more}
+use Rattle.limits.specs.Limits.{same, isBlock, shiftedBy}
+use Rattle.records.specs.declared.Offset.{Offset}
+use Rattle.records.specs.declared.Pair.{Pair}
+use Rattle.records.specs.declared.Record.{Record}
+use Rattle.records.specs.Packing.{partFits, pairFits, pairsFit}
+use Rattle.window.specs.Windows.{isNegative}
+use Rattle.distance.specs.Distance.{Block, blockOf}
+use Rattle.plane.specs.declared.Place.{Place}
+use Rattle.plane.specs.Samples.{placedFrom, nth, gathered}
+use Rattle.plane.specs.Reads.{placed-byte, source-byte, gathered-rows, gathered-block}
+use Rattle.plane.specs.Averages.{Power}
+use Rattle.choosing.specs.declared.Choice.{Choice}
+use Rattle.choosing.specs.Choosing.{selected}
+use Rattle.choosing.specs.Bounds.{Small}
+use Rattle.tables.specs.declared.Reference.{Reference}
+use Rattle.tables.specs.Tables.{vectorCost, tableOf, joined}
+use Rattle.tables.specs.Bounds.{Reached, Packed, Most}
+use Rattle.tables.specs.Laws.{table-most, vector-most, joined-most, most-small, block-same}
+use Rattle.best.specs.declared.Task.{Task}
+use Rattle.best.specs.Best.{searchedOf, widthOf, heightOf, choiceOf, sourceBlock, lumaReference, lumaCost, lumaTable, chromaWidth, chromaHeight, chromaReference, chromaCost, scaleOf, planeTable, chromaTable, answered}
+use Rattle.best.specs.Fair.{Fair}
+
+-- ---- "Block 8x8, 16x8 or 16x16": what holds at each of the three holds at every accepted block
+only : (n : ℕ) (z : ℤ) → same (pos n) z ≡ true → z ≡ pos n
+only n z e = let low = lies-low (pos n) (pos n) z e in let high = lies-high (pos n) (pos n) z e in omega signed
+
+pub at-each-block : (Q : ℤ → ℤ → Type 0) → Q (pos 8) (pos 8) → Q (pos 16) (pos 8) → Q (pos 16) (pos 16) → (w h : ℤ) → isBlock w h ≡ true → Q w h
+at-each-block Q small wide large w h e =
+    let w8 = same (pos 8) w in
+    let h8 = same (pos 8) h in
+    let w16 = same (pos 16) w in
+    let h16 = same (pos 16) h in
+    ⊎-elim
+    (λ k. rw (only 8 w (left-of w8 h8 k), only 8 h (right-of w8 h8 k)) small)
+    (λ k.
+    ⊎-elim
+    (λ l. rw (only 16 w (left-of w16 (h8 || h16) k), only 8 h l) wide)
+    (λ l. rw (only 16 w (left-of w16 (h8 || h16) k), only 16 h l) large)
+    (either-of h8 h16 (right-of w16 (h8 || h16) k)))
+    (either-of (w8 && h8) (w16 && (h8 || h16)) e)
+
+pub side-x : (w h : ℤ) → isBlock w h ≡ true → Within 0 16 w
+side-x w h e = at-each-block (λ x y. Within 0 16 x) (omega arith) (omega arith) (omega arith) w h e
+
+pub side-y : (w h : ℤ) → isBlock w h ≡ true → Within 0 16 h
+side-y w h e = at-each-block (λ x y. Within 0 16 y) (omega arith) (omega arith) (omega arith) w h e
+
+-- the sizes that costs are taken over: "16x16, 16x8, 8x8, 8x4, 4x4"
+pub record Sized (w h : ℕ) : Type 0 where
+  pub some : 4 ≤ w
+  pub wide : w ≤ 16
+  pub tall : 4 ≤ h
+  pub high : h ≤ 16
+  pub columns : 4 * (w / 4) ≡ w
+  pub rows : 4 * (h / 4) ≡ h
+  pub power : Power w h
+
+sized-16-16 : Sized 16 16
+sized-16-16 = record { some = omega arith; wide = omega arith; tall = omega arith; high = omega arith; columns = refl; rows = refl; power = refl }
+
+sized-16-8 : Sized 16 8
+sized-16-8 = record { some = omega arith; wide = omega arith; tall = omega arith; high = omega arith; columns = refl; rows = refl; power = refl }
+
+sized-8-8 : Sized 8 8
+sized-8-8 = record { some = omega arith; wide = omega arith; tall = omega arith; high = omega arith; columns = refl; rows = refl; power = refl }
+
+sized-8-4 : Sized 8 4
+sized-8-4 = record { some = omega arith; wide = omega arith; tall = omega arith; high = omega arith; columns = refl; rows = refl; power = refl }
+
+sized-4-4 : Sized 4 4
+sized-4-4 = record { some = omega arith; wide = omega arith; tall = omega arith; high = omega arith; columns = refl; rows = refl; power = refl }
+
+-- a block's own sides, and halved
+halved-or-not : (halve : Bool) (w h : ℤ) → isBlock w h ≡ true → Sized (natAbs (cond halve (shrZ w 2) w)) (natAbs (cond halve (shrZ h 2) h))
+halved-or-not true = at-each-block (λ x y. Sized (natAbs (shrZ x 2)) (natAbs (shrZ y 2))) sized-4-4 sized-8-4 sized-8-8
+halved-or-not false = at-each-block (λ x y. Sized (natAbs x) (natAbs y)) sized-8-8 sized-16-8 sized-16-16
+
+-- ---- parts that fit i16
+part-within : (z : ℤ) → partFits z ≡ true → Within 32768 32767 z
+part-within z e = let low = lies-low (negsuc 32767) (pos 32767) z e in let high = lies-high (negsuc 32767) (pos 32767) z e in omega signed
+
+first-within : (p : Pair) → pairFits p ≡ true → Within 32768 32767 (p .first)
+first-within p e = part-within (p .first) (left-of (partFits (p .first)) (partFits (p .second)) e)
+
+second-within : (p : Pair) → pairFits p ≡ true → Within 32768 32767 (p .second)
+second-within p e = part-within (p .second) (right-of (partFits (p .first)) (partFits (p .second)) e)
+
+-- ---- what `Fair` leaves
+module _ {task : Task} {given : Record} (fair : Fair task given) where
+  pub full-sized : Sized (natAbs (task .block .x)) (natAbs (task .block .y))
+  full-sized = halved-or-not false (task .block .x) (task .block .y) (fair .block-in)
+
+  pub searched-sized : Sized (widthOf task given) (heightOf task given)
+  searched-sized = halved-or-not (isNegative given) (task .block .x) (task .block .y) (fair .block-in)
+
+  pub chroma-sized : Sized (natAbs (shiftedBy (task .block .x) (task .shift))) (natAbs (shiftedBy (task .block .y) (task .shift)))
+  chroma-sized = by (ltZ (task .shift) (pos 1))
+    where
+      by : (t : Bool) → Sized (natAbs (cond t (task .block .x) (shrZ (task .block .x) 2))) (natAbs (cond t (task .block .y) (shrZ (task .block .y) 2)))
+      by true = halved-or-not false (task .block .x) (task .block .y) (fair .block-in)
+      by false = halved-or-not true (task .block .x) (task .block .y) (fair .block-in)
+
+  pub width-in : Within 0 16 (task .block .x)
+  width-in = side-x (task .block .x) (task .block .y) (fair .block-in)
+
+  pub height-in : Within 0 16 (task .block .y)
+  height-in = side-y (task .block .x) (task .block .y) (fair .block-in)
+
+  pairs-in : (pairFits (given .pos) ≡ true) × (pairFits (given .cpos) ≡ true) × (pairFits (given .predictor) ≡ true) × (pairFits (given .«window_x») ≡ true) × (pairFits (given .«window_y») ≡ true)
+  pairs-in = five-of (pairFits (given .pos)) (pairFits (given .cpos)) (pairFits (given .predictor)) (pairFits (given .«window_x»)) (pairFits (given .«window_y»)) (fair .pairs)
+
+  pub luma-reached : Reached (lumaReference task given)
+  luma-reached =
+      record {
+        placed = fair .reference-luma;
+        pitch-in = fair .reference-luma .pitch-in;
+        x-in = first-within (given .pos) (pairs-in .0);
+        y-in = second-within (given .pos) (pairs-in .0);
+      }
+
+  pub chroma-reached : {pitch : ℤ} → Within 0 65536 pitch → Reached (chromaReference task given pitch)
+  chroma-reached p =
+      record {
+        placed = fair .reference-u;
+        pitch-in = p;
+        x-in = first-within (given .cpos) (pairs-in .1);
+        y-in = second-within (given .cpos) (pairs-in .1);
+      }
+
+  pub scale-most : scaleOf task given ≤ 4
+  scale-most = by (task .shift) (fair .shift-in)
+    where
+      by : (s : ℤ) → Within 0 1 s → 4 ^ natAbs s ≤ 4
+      by (pos zero) p = omega arith
+      by (pos (suc zero)) p = omega arith
+      by (pos (suc (suc n))) p = absurd (omega arith)
+      by (negsuc n) p = absurd (omega arith)
+
+  -- ---- how large costs are, between bytes
+  pub luma-most : (luma reference : List ℕ) → ((n : ℕ) → getD luma n 0 < 256) → ((n : ℕ) → getD reference n 0 < 256) → Most 130560 (lumaTable task given luma reference)
+  unfolding lumaTable
+  luma-most luma reference p q =
+      table-most 130560 (choiceOf task given) (lumaCost task given luma reference)
+      (vector-most (task .measure) (widthOf task given) (heightOf task given) (sourceBlock task given luma) reference (lumaReference task given) (searched-sized .wide) (searched-sized .high)
+      (λ y x. source-byte luma p (natAbs (task .source .luma .pitch)) (given .full) (given .overlay) (natAbs (task .block .x)) (natAbs (task .block .y)) (y * widthOf task given + x)) q)
+
+  pub plane-most : (origin : Offset) (source : Place) (pitch : ℤ) (samples reference : List ℕ) → ((n : ℕ) → getD samples n 0 < 256) → ((n : ℕ) → getD reference n 0 < 256) →
+      Most 130560 (planeTable task given origin source pitch samples reference)
+  unfolding planeTable
+  plane-most origin source pitch samples reference p q =
+      table-most 130560 (choiceOf task given) (chromaCost task given origin source pitch samples reference)
+      (vector-most (task .measure) (chromaWidth task given) (chromaHeight task given) (placedFrom samples origin (natAbs (source .pitch))) reference (chromaReference task given pitch) (chroma-sized .wide) (chroma-sized .high)
+      (placed-byte samples p origin (natAbs (source .pitch))) q)
+
+  pub chroma-most : (u v referenceU referenceV : List ℕ) → ((n : ℕ) → getD u n 0 < 256) → ((n : ℕ) → getD v n 0 < 256) → ((n : ℕ) → getD referenceU n 0 < 256) → ((n : ℕ) → getD referenceV n 0 < 256) →
+      Most 1044480 (chromaTable task given u v referenceU referenceV)
+  unfolding chromaTable
+  chroma-most u v referenceU referenceV p q r s =
+      joined-most (plane-most (given .u) (task .source .u) (task .reference .u .pitch) u referenceU p r) (plane-most (given .v) (task .source .v) (task .reference .v .pitch) v referenceV q s) scale-most
+
+-- ---- a table of gathered samples is that of the block
+module _ (k : Choice) (measure : Bool) (w h : ℕ) (samples : List ℕ) (r : Reference) {out : List ℕ} (wide : w ≤ 16) (high : h ≤ 16) where
+  pub table-of-samples : (f : ℕ → ℕ) → out ≡ gathered (h * w) f → tableOf k (vectorCost measure w h (blockOf out w) samples r) ≡ tableOf k (vectorCost measure w h (λ y x. f (y * w + x)) samples r)
+  table-of-samples f e = rw e (block-same k measure w h _ _ samples r (gathered-rows w h f wide high))
+
+  pub table-of-block : (block : Block) → out ≡ gathered (h * w) (nth w block) → tableOf k (vectorCost measure w h (blockOf out w) samples r) ≡ tableOf k (vectorCost measure w h block samples r)
+  table-of-block block e = rw e (block-same k measure w h _ _ samples r (gathered-block w h block wide high))
+
+-- ---- a block that isn't bad looks at no table
+pub not-looked-at : (k : Choice) (bad negative : Bool) (sad : ℤ) (l c l′ c′ : List ℕ) → bad ≡ false → selected k bad negative sad l c ≡ selected k bad negative sad l′ c′
+unfolding selected
+not-looked-at k true negative sad l c l′ c′ e = absurd (holds (sym e))
+not-looked-at k false negative sad l c l′ c′ e = refl

@@ -1,0 +1,267 @@
+// One block's best: its vector, its SAD and its average, from its record and the planes.
+use block::Planes;
+use block::Sides;
+use choosing::Choice;
+use plane::Place;
+use records::Offset;
+use records::Record;
+use tables::Reference;
+ghost use mathlib.Core.Path.{_≡_};
+ghost use mathlib.Core.Bool.{true};
+ghost use Prim.Native.Nat.{_^_};
+ghost use lib.IntN.{ℤ, natAbs};
+ghost use Rattle.whole.specs.Interval.{Within};
+ghost use Rattle.limits.specs.Limits.{shiftedBy};
+ghost use Rattle.window.specs.Windows.{isBad};
+ghost use Rattle.plane.specs.Places.{Placed};
+ghost use Rattle.choosing.specs.Bounds.{Small};
+ghost use Rattle.best.specs.Best.{searchedOf, choiceOf, lumaReference, lumaTable, chromaReference, planeTable, chromaTable, averageAt, answered, bestOf};
+ghost use Rattle.best.specs.Fair.{Fair};
+
+// What all records share. The shift is the horizontal one.
+pub struct Task {
+    pub measure: bool,
+    pub block: Sides,
+    pub shift: i32,
+    pub pnew: i32,
+    pub pel: i32,
+    pub source: Planes,
+    pub reference: Planes,
+}
+
+pub struct Best {
+    pub x: i32,
+    pub y: i32,
+    pub sad: i32,
+    pub average: i32,
+}
+
+fn choice_of(task: Task, given: Record) -> Choice
+    ensures { λ r. ⌜ r ≡ choiceOf task given ⌝ }
+{
+    let predictor = given.predictor;
+    let window_x = given.window_x;
+    let window_y = given.window_y;
+    Choice {
+        x: predictor.first,
+        y: predictor.second,
+        least_x: window_x.first,
+        greatest_x: window_x.second,
+        least_y: window_y.first,
+        greatest_y: window_y.second,
+        lambda: given.lambda,
+        pnew: task.pnew,
+        pel: task.pel,
+    }
+}
+
+// ---- sides
+fn searched(negative: bool, side: i32) -> usize
+    requires { ⌜ Within 0 16 side ⌝ }
+    ensures { λ r. ⌜ r ≡ searchedOf negative side ⌝ }
+{
+    if negative {
+        return (side >> 1) as usize;
+    }
+    side as usize
+}
+
+fn chroma_side(side: i32, shift: i32) -> usize
+    requires { ⌜ Within 0 16 side ⌝ }
+    ensures { λ r. ⌜ r ≡ natAbs (shiftedBy side shift) ⌝ }
+{
+    limits::shifted(side, shift) as usize
+}
+
+fn scale_of(shift: i32) -> u32
+    requires { ⌜ Within 0 1 shift ⌝ }
+    ensures { λ r. ⌜ r ≡ 4 ^ natAbs shift ⌝ }
+{
+    if shift < 1 {
+        return 1;
+    }
+    4
+}
+
+// ---- luma
+fn luma_reference(task: Task, given: Record) -> Reference
+    ensures { λ r. ⌜ r ≡ lumaReference task given ⌝ }
+{
+    let planes = task.reference;
+    let place = planes.luma;
+    let pos = given.pos;
+    Reference {
+        place: place,
+        pitch: place.pitch,
+        x: pos.first,
+        y: pos.second,
+        shift: 0,
+    }
+}
+
+fn luma_table(task: Task, given: Record, luma: &[u8], reference_luma: &[u8]) -> [u32; 50]
+    requires { ⌜ Fair task given × (isBad given ≡ true) ⌝ }
+    ensures { λ r. ⌜ r ≡ lumaTable task given (now (luma .entry)) (now («reference_luma» .entry)) ⌝ }
+{
+    let measure = task.measure;
+    let sides = task.block;
+    let full_w = sides.x;
+    let full_h = sides.y;
+    let negative = window::is_negative(given);
+    let w = searched(negative, full_w);
+    let h = searched(negative, full_h);
+    let planes = task.source;
+    let place = planes.luma;
+    let pitch = place.pitch;
+    let full = given.full;
+    let overlay = given.overlay;
+    let block = plane::source_block(
+        luma,
+        pitch as usize,
+        full,
+        overlay,
+        full_w as usize,
+        full_h as usize,
+        h * w,
+    );
+    let reference = luma_reference(task, given);
+    let choice = choice_of(task, given);
+    tables::table(measure, w, h, &block, reference_luma, reference, choice)
+}
+
+// ---- chroma
+// U's place serves both planes; the pitch is the plane's own.
+fn chroma_reference(task: Task, given: Record, pitch: i32) -> Reference
+    ensures { λ r. ⌜ r ≡ chromaReference task given pitch ⌝ }
+{
+    let planes = task.reference;
+    let place = planes.u;
+    let cpos = given.cpos;
+    Reference {
+        place: place,
+        pitch: pitch,
+        x: cpos.first,
+        y: cpos.second,
+        shift: task.shift,
+    }
+}
+
+fn plane_table(
+    task: Task,
+    given: Record,
+    origin: Offset,
+    source: Place,
+    pitch: i32,
+    samples: &[u8],
+    reference: &[u8],
+) -> [u32; 50]
+    requires { ⌜ Fair task given × (isBad given ≡ true) ⌝ }
+    requires { ⌜ Placed source × Within 0 65536 pitch ⌝ }
+    ensures { λ r. ⌜ r ≡ planeTable task given origin source pitch (now (samples .entry)) (now (reference .entry)) ⌝ }
+{
+    let measure = task.measure;
+    let shift = task.shift;
+    let sides = task.block;
+    let full_w = sides.x;
+    let full_h = sides.y;
+    let w = chroma_side(full_w, shift);
+    let h = chroma_side(full_h, shift);
+    let step = source.pitch;
+    let block = plane::gather_from(samples, origin, step as usize, w, h);
+    let against = chroma_reference(task, given, pitch);
+    let choice = choice_of(task, given);
+    tables::table(measure, w, h, &block, reference, against, choice)
+}
+
+fn chroma_table(
+    task: Task,
+    given: Record,
+    u: &[u8],
+    v: &[u8],
+    reference_u: &[u8],
+    reference_v: &[u8],
+) -> [u32; 50]
+    requires { ⌜ Fair task given × (isBad given ≡ true) ⌝ }
+    ensures { λ r. ⌜ r ≡ chromaTable task given (now (u .entry)) (now (v .entry)) (now («reference_u» .entry)) (now («reference_v» .entry)) ⌝ }
+{
+    let from = task.source;
+    let from_u = from.u;
+    let from_v = from.v;
+    let to = task.reference;
+    let to_u = to.u;
+    let to_v = to.v;
+    let pitch_u = to_u.pitch;
+    let pitch_v = to_v.pitch;
+    let shift = task.shift;
+    let origin_u = given.u;
+    let origin_v = given.v;
+    let us = plane_table(task, given, origin_u, from_u, pitch_u, u, reference_u);
+    let vs = plane_table(task, given, origin_v, from_v, pitch_v, v, reference_v);
+    tables::join(&us, &vs, scale_of(shift))
+}
+
+// ---- the average, and the answer
+fn average_of(task: Task, given: Record, luma: &[u8]) -> i32
+    requires { ⌜ Fair task given ⌝ }
+    ensures { λ r. ⌜ r ≡ averageAt task given (now (luma .entry)) ⌝ }
+{
+    let sides = task.block;
+    let full_w = sides.x;
+    let full_h = sides.y;
+    let negative = window::is_negative(given);
+    let w = searched(negative, full_w);
+    let h = searched(negative, full_h);
+    let planes = task.source;
+    let place = planes.luma;
+    let pitch = place.pitch;
+    let origin = given.average;
+    plane::average(luma, origin, pitch as usize, w, h)
+}
+
+fn answer(task: Task, given: Record, lumas: &[u32; 50], chromas: &[u32; 50], average: i32) -> Best
+    requires { ⌜ Fair task given ⌝ }
+    requires { ⌜ Small (now lumas) × Small (now chromas) ⌝ }
+    ensures { λ r. ⌜ r ≡ answered task given (now (lumas .entry)) (now (chromas .entry)) average ⌝ }
+{
+    let choice = choice_of(task, given);
+    let bad = window::is_bad(given);
+    let negative = window::is_negative(given);
+    let sad = given.sad;
+    let chosen = choosing::select(choice, bad, negative, sad, lumas, chromas);
+    let x = chosen.x;
+    let y = chosen.y;
+    let least = chosen.sad;
+    Best {
+        x: x,
+        y: y,
+        sad: least,
+        average: average,
+    }
+}
+
+// A block that isn't bad has no table, and a negative one none of chroma: no byte is read for these.
+pub fn best_of(
+    task: Task,
+    given: Record,
+    luma: &[u8],
+    u: &[u8],
+    v: &[u8],
+    reference_luma: &[u8],
+    reference_u: &[u8],
+    reference_v: &[u8],
+) -> Best
+    requires { ⌜ Fair task given ⌝ }
+    ensures { λ r. ⌜ r ≡ bestOf task given (now (luma .entry)) (now (u .entry)) (now (v .entry)) (now («reference_luma» .entry)) (now («reference_u» .entry)) (now («reference_v» .entry)) ⌝ }
+{
+    let average = average_of(task, given, luma);
+    let none = [0u32; 50];
+    if window::is_bad(given) {
+        let lumas = luma_table(task, given, luma, reference_luma);
+        if window::is_negative(given) {
+            return answer(task, given, &lumas, &none, average);
+        }
+        let chromas = chroma_table(task, given, u, v, reference_u, reference_v);
+        return answer(task, given, &lumas, &chromas, average);
+    }
+    answer(task, given, &none, &none, average)
+}

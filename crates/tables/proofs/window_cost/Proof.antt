@@ -1,0 +1,35 @@
+-- A candidate lies at most 6 past the window's least, which fits i16. Assumes nothing.
+use mathlib.Core.Path.{_≡_}
+use Prim.Native.Nat.{ℕ, _<_}
+use native.Mathlib.Omega.{arith}
+use lib.IntN.{ℤ, pos, _+ℤ_}
+use mir.Syntax.{w32}
+use mir.Val.{toZ, ofZ}
+use Rattle.whole.specs.Signed.{add-is}
+use Rattle.whole.specs.Interval.{Within, Is, is-call, read-within}
+use Rattle.tables.proofs.window_cost.Statement.{statement}
+use Rattle.tables.proofs.window_cost.Tie as tie
+
+on : (z : ℤ) (n : ℕ) → Within 32768 32767 z → n < 7 → Within 32768 65536 (z +ℤ pos n)
+on z n p l = omega (arith, add-is z (pos n))
+
+vx : (c : tie.After-x-at) → Is w32 32768 65536 (toZ w32 (ofZ w32 (c .x-at .result))) (c .before .before .before .args .choice .«least_x» +ℤ pos (c .before .before .before .args .i))
+vx c = let p = c .before .before .before .pre .1 in is-call w32 (c .x-at .ok) (c .x-at .ensures) (on _ _ (p .0 .ranged .least-x) (p .1 .1))
+
+vy : (c : tie.After-y-at) → Is w32 32768 65536 (toZ w32 (ofZ w32 (c .y-at .result))) (c .before .before .before .before .args .choice .«least_y» +ℤ pos (c .before .before .before .before .args .j))
+vy c = let p = c .before .before .before .before .pre .1 in is-call w32 (c .y-at .ok) (c .y-at .ensures) (on _ _ (p .0 .ranged .least-y) (p .1 .0))
+
+x-at-requires : tie.Need-x-at-requires
+x-at-requires c κs = (c .before .before .pre .1 .0 .ranged, omega (arith, c .before .before .pre .1 .1 .1))
+
+y-at-requires : tie.Need-y-at-requires
+y-at-requires c κs = (c .before .before .before .pre .1 .0 .ranged, omega (arith, c .before .before .before .pre .1 .1 .0))
+
+vector-cost-requires : tie.Need-vector-cost-requires
+vector-cost-requires c κs = (c .before .before .before .before .pre .0, (read-within (vx (c .before)), read-within (vy c)))
+
+returns : tie.Need-returns
+returns c = rw ((vx (c .before .before)) .same, (vy (c .before)) .same) at (c .vector-cost .ensures)
+
+pub window-cost-spec : {M : Type 1} → statement M
+window-cost-spec = tie.close (tie.spec x-at-requires y-at-requires vector-cost-requires returns)
