@@ -6,6 +6,7 @@
 #ifndef HIRUPANGO_H
 #define HIRUPANGO_H
 
+#include <stdbool.h>
 #include <stddef.h>
 #include <stdint.h>
 
@@ -29,6 +30,87 @@ uint32_t hirupango_block_cost(int32_t measure, int32_t width, int32_t height, co
  *   5  out_len is under 4 */
 uint32_t hirupango_packed_score(int32_t x, int32_t y, int32_t sad, int32_t diagonal, int32_t average, uint8_t *out,
                                 size_t out_len);
+
+/* The frame's diagonal: pel x the whole root of width squared + height squared. On 0 the first 4 bytes of out are the
+ * number, lowest byte first, and the others stay.
+ *   2  a side not from 2 to 16,384, or a pel other than 1, 2 or 4
+ *   5  out_len is under 4 */
+uint32_t hirupango_diagonal(int32_t width, int32_t height, int32_t pel, uint8_t *out, size_t out_len);
+
+/* How many costs one block has at most: 1 + (2 x radius + 1) squared; the radius is search_param without its sign. On 0 the
+ * first 4 bytes of out are the number, lowest byte first, and the others stay.
+ *   1  a radius over 3
+ *   5  out_len is under 4 */
+uint32_t hirupango_slots(int32_t search_param, uint8_t *out, size_t out_len);
+
+/* The blocks of a grid of nx columns and ny rows in serpentine order. On 0 the first 2 x nx x ny numbers of order are x and y of
+ * each block in turn, and the others stay.
+ *   1  a side below 2
+ *   2  a side over 2,048
+ *   5  order_len is under 2 x nx x ny */
+uint32_t hirupango_serpentine_order(int32_t nx, int32_t ny, int32_t *order, size_t order_len);
+
+/* One number along each axis. */
+struct hirupango_sides {
+    int32_t x, y;
+};
+
+/* Where a plane lies in its bytes: row y of the frame starts at base + y x pitch. */
+struct hirupango_place {
+    size_t base;
+    int32_t pitch, width, height, pel;
+};
+
+/* What planning is asked for. Handed over by value. */
+struct hirupango_settings {
+    struct {
+        bool exhaustive;
+        int32_t search_param; /* the radius, with any sign */
+    } search;
+    struct {
+        int32_t lambda, bad_sad;
+    } weights;
+    struct {
+        bool smallest, need_luma;
+        int32_t pel;
+    } level;
+    struct hirupango_sides block; /* a block's width and height */
+    struct hirupango_sides grid;  /* how many blocks there are in a row and in a column */
+    struct hirupango_sides step;  /* from one block to the next */
+    struct hirupango_sides shift; /* how far chroma's sides are luma's shifted right */
+    struct {
+        struct hirupango_place luma, u, v;
+    } planes;
+};
+
+/* Planning. n is the number of the grid's blocks, grid.x x grid.y. order is x and y of n blocks; vectors are x, y and SAD of the
+ * n blocks, row by row; luma, u and v are the source planes' bytes, of which planning looks at the lengths alone. On 0 the
+ * first 12 x n words of records are a record for each block of the order, the first n numbers of indices the blocks' places in the grid,
+ * and the others stay; hirupango_slots of search_param and hirupango_diagonal of luma's sides and level.pel are the plan's.
+ *   1  not exhaustive, a block other than 8x8, 16x8 or 16x16, a grid side below 2, order_len not 2 x n, or a radius over 3
+ *   2  a grid side over 2,048, a step not from 1 to the block's side, luma's sides not from 2 to 16,384, a last block that ends
+ *      outside the frame, a pel other than 1, 2 or 4, shifts other than (0,0), (1,0) or (1,1), a chroma side that is not
+ *      luma's shifted, a pitch not from the plane's width to 65,536, vectors_len not 3 x n, or a component beyond i16
+ *   3  a plane of over 1,073,741,823 bytes, or of fewer than base + (height - 1) x pitch + width
+ *   4  an entry of the order outside the grid
+ *   5  records_len is under 12 x n, or indices_len under n
+ *   6  a record that doesn't fit its words: lambda / 4 of a plain block not from -2^28 to 2^28 - 1, a position or a window beyond i16 */
+uint32_t hirupango_plan(struct hirupango_settings settings, const int32_t *order, size_t order_len, const int32_t *vectors,
+                        size_t vectors_len, const uint8_t *luma, size_t luma_len, const uint8_t *u, size_t u_len,
+                        const uint8_t *v, size_t v_len, int32_t *records, size_t records_len, int32_t *indices,
+                        size_t indices_len);
+
+/* Finishing. n is nx x ny. indices name blocks of the grid; bests are x, y, SAD and average for each index. On 0 the vectors of
+ * the blocks named are stored, x, y and SAD in vectors from 3 x index on; where output is asked for, its words 2 x index and 2 x index + 1
+ * are the block's two output words. Of two entries with one index the later wins, and everything else stays.
+ *   1  a side below 2
+ *   2  a side over 2,048, vectors_len not 3 x n, or a diagonal of 0 or less
+ *   4  an index not from 0 to n - 1
+ *   5  output asked for and output_len under 2 x n, or bests_len not 4 x indices_len
+ *   7  a best's component beyond i16 */
+uint32_t hirupango_finish(int32_t nx, int32_t ny, const int32_t *indices, size_t indices_len, const int32_t *bests,
+                          size_t bests_len, int32_t diagonal, bool output_asked, int32_t *vectors, size_t vectors_len,
+                          int32_t *output, size_t output_len);
 
 #ifdef __cplusplus
 }

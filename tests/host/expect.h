@@ -16,7 +16,14 @@ void expect(int held, const char *asked, long a, long b);
 void expect_answer(const char *asked, uint32_t number, uint32_t answered, uint32_t value, const uint8_t *before,
                    const uint8_t *after, size_t length);
 
+/* Marks a buffer of words, each with its own, and says whether the words from one place to another still have theirs. */
+void mark(int32_t *words, size_t count);
+int marked(const int32_t *words, size_t from, size_t to);
+
 void block_cost_tests(void);
 void packed_score_tests(void);
+void numbers_tests(void);
+void plan_refusals_tests(void);
+void finish_refusals_tests(void);
 
 #endif

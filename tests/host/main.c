@@ -24,9 +24,26 @@ void expect_answer(const char *asked, uint32_t number, uint32_t answered, uint32
     expect(memcmp(before + 4, after + 4, length - 4) == 0, asked, -2, length);
 }
 
+static int32_t mark_of(size_t i) {
+    return (int32_t)((uint32_t)i * 2654435761u ^ 0x5a5a5a5au);
+}
+
+void mark(int32_t *words, size_t count) {
+    for (size_t i = 0; i < count; i++) words[i] = mark_of(i);
+}
+
+int marked(const int32_t *words, size_t from, size_t to) {
+    for (size_t i = from; i < to; i++)
+        if (words[i] != mark_of(i)) return 0;
+    return 1;
+}
+
 int main(void) {
     block_cost_tests();
     packed_score_tests();
+    numbers_tests();
+    plan_refusals_tests();
+    finish_refusals_tests();
     printf("%d passed, %d failed\n", passed, failed);
     return failed != 0;
 }

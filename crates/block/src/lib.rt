@@ -15,33 +15,40 @@ ghost use Rattle.block.specs.Shapes.{rimOf, negativeOf, axisOf, radiusOf
 ghost use Rattle.block.specs.Steps.{filledWith, settledAt, flagsOf, quietRecord, scaledPair, badRecord, badStep, lumaStep, quietStep, stepOf};
 ghost use Rattle.block.specs.Asked.{Addressed, Shaped, SpotHeld, Held, Ready};
 
+// Laid out as C lays them out: a host hands settings over by value.
+#[repr(C)]
 pub struct Sides {
     pub x: i32,
     pub y: i32,
 }
 
+#[repr(C)]
 pub struct Planes {
     pub luma: Place,
     pub u: Place,
     pub v: Place,
 }
 
+#[repr(C)]
 pub struct Search {
     pub exhaustive: bool,
     pub search_param: i32,
 }
 
+#[repr(C)]
 pub struct Weights {
     pub lambda: i32,
     pub bad_sad: i32,
 }
 
+#[repr(C)]
 pub struct Level {
     pub smallest: bool,
     pub need_luma: bool,
     pub pel: i32,
 }
 
+#[repr(C)]
 pub struct Settings {
     pub search: Search,
     pub weights: Weights,

@@ -1,4 +1,6 @@
-pub mod PackedScore
-pub mod PackedScoreLaws
+pub mod Word
+pub mod WordLaws
+pub mod Slots
+pub mod Made
 pub mod BlockCost
 pub mod BlockCostLaws

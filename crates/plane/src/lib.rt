@@ -14,6 +14,8 @@ ghost use Rattle.plane.specs.Places.{limitsHold, keepsLength, pel1Of, su
 ghost use Rattle.plane.specs.Samples.{sampleAt, placedAt, placedFrom, nth, sourceAt, gathered, averageOf};
 ghost use Rattle.plane.specs.Averages.{Power};
 
+// Laid out as C lays it out: a host hands it over by value.
+#[repr(C)]
 pub struct Place {
     pub base: usize,
     pub pitch: i32,

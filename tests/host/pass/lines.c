@@ -1,0 +1,50 @@
+#include "lines.h"
+
+enum { MORE = 5, BEHIND = 3 };
+
+int64_t take(struct numbers *from) {
+    if (from->left == 0) {
+        from->short_of = true;
+        return 0;
+    }
+    from->left--;
+    return *from->at++;
+}
+
+bool used_up(const struct numbers *from) {
+    return from->left == 0 && !from->short_of;
+}
+
+int32_t *take_words(struct numbers *from, size_t count) {
+    if (count > from->left) {
+        from->short_of = true;
+        count = 0;
+    }
+    int32_t *words = malloc((count + 1) * sizeof *words);
+    for (size_t i = 0; i < count; i++) words[i] = (int32_t)take(from);
+    return words;
+}
+
+static int32_t mark(size_t i) {
+    return (int32_t)((uint32_t)i * 2654435761u ^ 0x5a5a5a5au);
+}
+
+struct lent lend(size_t needed, size_t line) {
+    struct lent buffer = {NULL, needed + line % 2 * MORE, 0};
+    buffer.whole = buffer.length + BEHIND;
+    buffer.at = malloc(buffer.whole * sizeof *buffer.at);
+    for (size_t i = 0; i < buffer.whole; i++) buffer.at[i] = mark(i);
+    return buffer;
+}
+
+void start_with(struct lent buffer, size_t count, int32_t word) {
+    for (size_t i = 0; i < count; i++) buffer.at[i] = word;
+}
+
+bool holds(struct lent buffer, size_t count, struct numbers *answers) {
+    for (size_t i = 0; i < count; i++)
+        if (buffer.at[i] != take(answers)) return false;
+    for (size_t i = count; i < buffer.whole; i++)
+        if (buffer.at[i] != mark(i)) return false;
+    return true;
+}

@@ -1,0 +1,47 @@
+/* The oracle's lines, `inputs = answers`, and the buffers that are lent for them. */
+#ifndef LINES_H
+#define LINES_H
+#include <stdbool.h>
+#include <stddef.h>
+#include <stdint.h>
+
+int printf(const char *format, ...);
+void *malloc(size_t n);
+void free(void *at);
+int strcmp(const char *a, const char *b);
+
+/* Numbers still to be read. Past the last one 0 is read, and short_of says so. */
+struct numbers {
+    const int64_t *at;
+    size_t left;
+    bool short_of;
+};
+
+int64_t take(struct numbers *from);
+
+/* Whether all were read, and none was missing. */
+bool used_up(const struct numbers *from);
+
+/* So many of them as 32-bit words, or none where there are fewer. The caller frees them. */
+int32_t *take_words(struct numbers *from, size_t count);
+
+/* A lent buffer of needed words and, on every other line, some more. Behind what is lent stand words that are not. Each holds a
+ * mark of its own before the call. */
+struct lent {
+    int32_t *at;
+    size_t length, whole;
+};
+
+struct lent lend(size_t needed, size_t line);
+
+/* Sets the first count words, where something was there before. */
+void start_with(struct lent buffer, size_t count, int32_t word);
+
+/* Whether the first count words are the next answers, and every other one is as it was. */
+bool holds(struct lent buffer, size_t count, struct numbers *answers);
+
+/* The kinds: whether what is answered from the inputs is what stands in the answers. */
+bool plan_agrees(size_t line, struct numbers inputs, struct numbers answers);
+bool finish_agrees(size_t line, struct numbers inputs, struct numbers answers);
+
+#endif

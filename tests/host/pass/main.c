@@ -1,0 +1,103 @@
+/* pass KIND < LINES: asks an exported function what the Rust was asked, and compares every number. Names each line that differs; its last
+ * line counts. */
+#include "lines.h"
+
+long read(int file, void *to, size_t n);
+void *realloc(void *at, size_t n);
+
+static const struct {
+    const char *name;
+    bool (*agrees)(size_t line, struct numbers inputs, struct numbers answers);
+} kinds[] = {{"plan", plan_agrees}, {"finish", finish_agrees}};
+
+enum { KINDS = sizeof kinds / sizeof *kinds };
+
+/* Standard input, with a 0 behind it. */
+static char *all_input(void) {
+    size_t room = 1 << 16, length = 0;
+    char *text = malloc(room);
+    for (;;) {
+        long more = read(0, text + length, room - length - 1);
+        if (more <= 0) break;
+        length += (size_t)more;
+        if (length + 1 == room) text = realloc(text, room *= 2);
+    }
+    text[length] = 0;
+    return text;
+}
+
+static bool is_digit(char c) {
+    return '0' <= c && c <= '9';
+}
+
+/* One whole number, or none where something else stands there. Its digits are never more than the oracle writes. */
+static bool read_number(const char **at, int64_t *number) {
+    bool negative = **at == '-';
+    const char *digits = *at + negative;
+    if (!is_digit(*digits)) return false;
+    int64_t value = 0;
+    for (; is_digit(*digits); digits++) value = value * 10 + (*digits - '0');
+    *number = negative ? -value : value;
+    *at = digits;
+    return true;
+}
+
+/* A line's numbers up to its end; split is where the answers begin. A word that is no number ends the reading: the line differs. */
+static bool read_line(const char **at, int64_t *numbers, size_t *count, size_t *split) {
+    bool parted = false, good = true;
+    *count = 0;
+    for (; **at && **at != '\n';) {
+        if (**at == ' ') {
+            (*at)++;
+        } else if (**at == '=' && !parted) {
+            parted = true;
+            *split = *count;
+            (*at)++;
+        } else if (good && read_number(at, numbers + *count)) {
+            (*count)++;
+        } else {
+            good = false;
+            (*at)++;
+        }
+    }
+    return good && parted;
+}
+
+static size_t longest_line(const char *text) {
+    size_t most = 0, here = 0;
+    for (; *text; text++) {
+        here = *text == '\n' ? 0 : here + 1;
+        if (here > most) most = here;
+    }
+    return most;
+}
+
+int main(int count, char **words) {
+    size_t kind = 0;
+    while (kind < KINDS && (count != 2 || strcmp(words[1], kinds[kind].name) != 0)) kind++;
+    if (kind == KINDS) {
+        printf("usage: pass KIND < LINES\n");
+        return 2;
+    }
+    const char *at = all_input();
+    int64_t *numbers = malloc((longest_line(at) + 1) * sizeof *numbers);
+    long cases = 0, differ = 0;
+    for (size_t line = 1; *at; line++) {
+        if (*at == '#' || *at == '\n') {
+            while (*at && *at != '\n') at++;
+        } else {
+            size_t length = 0, split = 0;
+            bool agrees = read_line(&at, numbers, &length, &split);
+            struct numbers inputs = {numbers, split, false}, answers = {numbers + split, length - split, false};
+            agrees = agrees && kinds[kind].agrees(line, inputs, answers);
+            cases++;
+            if (!agrees) {
+                differ++;
+                printf("differs: line %ld\n", (long)line);
+            }
+        }
+        if (*at) at++;
+    }
+    printf("%ld cases, %ld differ\n", cases, differ);
+    return differ != 0;
+}
