@@ -100,6 +100,30 @@ uint32_t hirupango_plan(struct hirupango_settings settings, const int32_t *order
                         const uint8_t *v, size_t v_len, int32_t *records, size_t records_len, int32_t *indices,
                         size_t indices_len);
 
+/* What evaluating is asked for. Handed over by value. */
+struct hirupango_request {
+    bool satd; /* SATD, or else SAD */
+    struct hirupango_sides block, shift;
+    int32_t search_param, pnew, pel;
+    struct {
+        struct hirupango_place luma, u, v;
+    } source, reference;
+};
+
+/* Evaluating. n is the number of records, records_len / 12; luma, u and v are the source planes' bytes, and then the reference's. On 0 the
+ * first 4 x n numbers of bests are x, y, SAD and average of each record's best, and the others stay.
+ *   1  a block other than 8x8, 16x8 or 16x16, or a radius over 3
+ *   2  a pel other than 1, 2 or 4, shifts other than (0,0), (1,0) or (1,1), source luma's sides not from 2 to 16,384, a chroma side that
+ *      is not luma's shifted, a pitch not from the plane's width to 65,536, or a reference plane with other sides than the source's or another pel
+ *   3  a plane of over 1,073,741,823 bytes, or of fewer than base + (height - 1) x pitch + width
+ *   5  records_len is not a multiple of 12, or bests_len is under 4 x n
+ *   7  a record with BAD set whose window has both sides non-empty and one over 2 x radius + 1 */
+uint32_t hirupango_evaluate(struct hirupango_request request, const int32_t *records, size_t records_len, const uint8_t *luma,
+                            size_t luma_len, const uint8_t *u, size_t u_len, const uint8_t *v, size_t v_len,
+                            const uint8_t *reference_luma, size_t reference_luma_len, const uint8_t *reference_u,
+                            size_t reference_u_len, const uint8_t *reference_v, size_t reference_v_len, int32_t *bests,
+                            size_t bests_len);
+
 /* Finishing. n is nx x ny. indices name blocks of the grid; bests are x, y, SAD and average for each index. On 0 the vectors of
  * the blocks named are stored, x, y and SAD in vectors from 3 x index on; where output is asked for, its words 2 x index and 2 x index + 1
  * are the block's two output words. Of two entries with one index the later wins, and everything else stays.

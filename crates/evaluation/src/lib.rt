@@ -16,6 +16,7 @@ ghost use Rattle.evaluation.specs.Asked.{FairAll, Searched};
 ghost use Rattle.block.specs.Shapes.{radiusOf};
 ghost use Rattle.record_slice.specs.RecordSlice.{anyWide};
 
+#[repr(C)]
 pub struct Request {
     pub measure: bool,
     pub block: Sides,

@@ -1,6 +1,7 @@
 // What a host in C calls: thin functions over the proved entries. include/hirupango.h declares them.
 use block::Search;
 use block::Settings;
+use evaluation::Request;
 use planning::Planned;
 use score::Answer;
 ghost use mathlib.Core.Path.{_≡_};
@@ -11,6 +12,7 @@ ghost use Rattle.score.specs.Score.{scoreAnswer};
 ghost use Rattle.score.specs.Diagonal.{diagonalAnswer};
 ghost use Rattle.serpentine.specs.Answers.{orderRefusal, orderAfter};
 ghost use Rattle.planning.specs.Planned.{planNumber, planAnswer, planRecords, planIndices};
+ghost use Rattle.evaluation.specs.Evaluated.{evaluateAnswer, evaluateBests};
 ghost use Rattle.finishing.specs.Finish.{finishAnswer, finishVectors, finishOutput};
 ghost use Rattle.hirupango.specs.BlockCost.{isSize, numbersFit, isHeld, costNumber, costBytes};
 ghost use Rattle.hirupango.specs.Word.{wordNumber, wordBytes};
@@ -166,6 +168,34 @@ pub extern "C" fn hirupango_plan(
         return 0;
     };
     number
+}
+
+#[no_mangle]
+pub extern "C" fn hirupango_evaluate(
+    request: Request,
+    records: &[i32],
+    luma: &[u8],
+    u: &[u8],
+    v: &[u8],
+    reference_luma: &[u8],
+    reference_u: &[u8],
+    reference_v: &[u8],
+    bests: &mut [i32],
+) -> u32
+    ensures number { λ r. ⌜ r ≡ evaluateAnswer request (now (records .entry)) (now (luma .entry)) (now (u .entry)) (now (v .entry)) (now («reference_luma» .entry)) (now («reference_u» .entry)) (now («reference_v» .entry)) (length (now (bests .entry))) ⌝ }
+    ensures found { λ _. ⌜ now (bests .exit) ≡ evaluateBests request (now (records .entry)) (now (luma .entry)) (now (u .entry)) (now (v .entry)) (now («reference_luma» .entry)) (now («reference_u» .entry)) (now («reference_v» .entry)) (now (bests .entry)) ⌝ }
+{
+    evaluation::evaluate(
+        request,
+        records,
+        luma,
+        u,
+        v,
+        reference_luma,
+        reference_u,
+        reference_v,
+        bests,
+    )
 }
 
 #[no_mangle]

@@ -1,4 +1,3 @@
-#include "../../../include/hirupango.h"
 #include "lines.h"
 
 /* The oracle starts with vectors and output of zeros. The vectors are lent just as long as they must be. */

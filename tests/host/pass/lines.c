@@ -48,3 +48,21 @@ bool holds(struct lent buffer, size_t count, struct numbers *answers) {
         if (buffer.at[i] != mark(i)) return false;
     return true;
 }
+
+struct hirupango_sides take_sides(struct numbers *from) {
+    struct hirupango_sides sides;
+    sides.x = (int32_t)take(from);
+    sides.y = (int32_t)take(from);
+    return sides;
+}
+
+struct hirupango_place take_place(struct numbers *from, int32_t pel, size_t *length) {
+    struct hirupango_place place;
+    place.base = (size_t)take(from);
+    place.pitch = (int32_t)take(from);
+    place.width = (int32_t)take(from);
+    place.height = (int32_t)take(from);
+    place.pel = pel;
+    *length = (size_t)take(from);
+    return place;
+}

@@ -5,6 +5,8 @@
 #include <stddef.h>
 #include <stdint.h>
 
+#include "../../../include/hirupango.h"
+
 int printf(const char *format, ...);
 void *malloc(size_t n);
 void free(void *at);
@@ -40,8 +42,13 @@ void start_with(struct lent buffer, size_t count, int32_t word);
 /* Whether the first count words are the next answers, and every other one is as it was. */
 bool holds(struct lent buffer, size_t count, struct numbers *answers);
 
+/* Where a plane stands, as the oracle has it, and how many bytes it has. The oracle's planes have the plan's pel. */
+struct hirupango_sides take_sides(struct numbers *from);
+struct hirupango_place take_place(struct numbers *from, int32_t pel, size_t *length);
+
 /* The kinds: whether what is answered from the inputs is what stands in the answers. */
 bool plan_agrees(size_t line, struct numbers inputs, struct numbers answers);
+bool evaluate_agrees(size_t line, struct numbers inputs, struct numbers answers);
 bool finish_agrees(size_t line, struct numbers inputs, struct numbers answers);
 
 #endif

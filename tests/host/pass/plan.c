@@ -1,29 +1,9 @@
-#include "../../../include/hirupango.h"
 #include "../unread.h"
 #include "lines.h"
 
 enum { WORDS = 12 };
 
 static const size_t MOST_READ = ((size_t)1 << 30) - 1;
-
-static struct hirupango_sides take_sides(struct numbers *from) {
-    struct hirupango_sides sides;
-    sides.x = (int32_t)take(from);
-    sides.y = (int32_t)take(from);
-    return sides;
-}
-
-/* The oracle's planes have the plan's pel. */
-static struct hirupango_place take_place(struct numbers *from, int32_t pel, size_t *length) {
-    struct hirupango_place place;
-    place.base = (size_t)take(from);
-    place.pitch = (int32_t)take(from);
-    place.width = (int32_t)take(from);
-    place.height = (int32_t)take(from);
-    place.pel = pel;
-    *length = (size_t)take(from);
-    return place;
-}
 
 static struct hirupango_settings take_settings(struct numbers *from, size_t lengths[3]) {
     struct hirupango_settings s;
