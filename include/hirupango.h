@@ -43,8 +43,8 @@ uint32_t hirupango_diagonal(int32_t width, int32_t height, int32_t pel, uint8_t 
  *   5  out_len is under 4 */
 uint32_t hirupango_slots(int32_t search_param, uint8_t *out, size_t out_len);
 
-/* The blocks of a grid of nx columns and ny rows in serpentine order. On 0 the first 2 x nx x ny numbers of order are x and y of
- * each block in turn, and the others stay.
+/* The blocks of a grid of nx columns and ny rows in serpentine order. On 0 the first 2 x nx x ny numbers of order are x
+ * and y of each block in turn, and the others stay.
  *   1  a side below 2
  *   2  a side over 2,048
  *   5  order_len is under 2 x nx x ny */
@@ -83,23 +83,26 @@ struct hirupango_settings {
     } planes;
 };
 
-/* Planning. n is the number of the grid's blocks, grid.x x grid.y. order is x and y of n blocks; vectors are x, y and SAD of the
- * n blocks, row by row; luma, u and v are the source planes' bytes, of which planning looks at the lengths alone. On 0 the
- * first 12 x n words of records are a record for each block of the order, the first n numbers of indices the blocks' places in the grid,
- * and the others stay; hirupango_slots of search_param and hirupango_diagonal of luma's sides and level.pel are the plan's.
+/* Planning. n is the number of the grid's blocks, grid.x x grid.y. order is x and y of n blocks; vectors are x, y and SAD of
+ * the n blocks, row by row; luma, u and v are the source planes' bytes, of which planning looks at the lengths alone. On 0
+ * the first 12 x n words of records are a record for each entry of the order, the first n numbers of indices the entries'
+ * places in the grid, row by row, and the others stay. The plan's slots are hirupango_slots of search_param, its diagonal
+ * is hirupango_diagonal of luma's sides and level.pel.
  *   1  not exhaustive, a block other than 8x8, 16x8 or 16x16, a grid side below 2, order_len not 2 x n, or a radius over 3
- *   2  a grid side over 2,048, a step not from 1 to the block's side, luma's sides not from 2 to 16,384, a last block that ends
- *      outside the frame, a pel other than 1, 2 or 4, shifts other than (0,0), (1,0) or (1,1), a chroma side that is not
- *      luma's shifted, a pitch not from the plane's width to 65,536, vectors_len not 3 x n, or a component beyond i16
+ *   2  a grid side over 2,048, a step not from 1 to the block's side, luma's sides not from 2 to 16,384, a last block that
+ *      ends outside the frame, a pel other than 1, 2 or 4, shifts other than (0,0), (1,0) or (1,1), a chroma side that is
+ *      not luma's shifted, a pitch not from the plane's width to 65,536, vectors_len not 3 x n, or a component beyond i16
  *   3  a plane of over 1,073,741,823 bytes, or of fewer than base + (height - 1) x pitch + width
  *   4  an entry of the order outside the grid
  *   5  records_len is under 12 x n, or indices_len under n
- *   6  a record that doesn't fit its words: lambda / 4 of a plain block not from -2^28 to 2^28 - 1, a position or a window beyond i16 */
+ *   6  a record that doesn't fit its words: a plain block's lambda not from -2^30 to 2^30 - 1, or, at pel 4, a position over
+ *      8,191 or a window's end over 32,767 */
 uint32_t hirupango_plan(struct hirupango_settings settings, const int32_t *order, size_t order_len, const int32_t *vectors,
                         size_t vectors_len, const uint8_t *luma, size_t luma_len, const uint8_t *u, size_t u_len,
                         const uint8_t *v, size_t v_len, int32_t *records, size_t records_len, int32_t *indices,
                         size_t indices_len);
 
+<<<<<<< ours
 /* What evaluating is asked for. Handed over by value. */
 struct hirupango_request {
     bool satd; /* SATD, or else SAD */
@@ -127,6 +130,12 @@ uint32_t hirupango_evaluate(struct hirupango_request request, const int32_t *rec
 /* Finishing. n is nx x ny. indices name blocks of the grid; bests are x, y, SAD and average for each index. On 0 the vectors of
  * the blocks named are stored, x, y and SAD in vectors from 3 x index on; where output is asked for, its words 2 x index and 2 x index + 1
  * are the block's two output words. Of two entries with one index the later wins, and everything else stays.
+=======
+/* Finishing. n is nx x ny. indices name blocks of the grid; bests are x, y, SAD and average for each index. On 0 the vectors
+ * of the blocks named are stored, x, y and SAD in vectors from 3 x index on; where output is asked for, the block's two
+ * output words are stored in output from 2 x index on. Of two entries with one index the later wins, and everything else
+ * stays.
+>>>>>>> theirs
  *   1  a side below 2
  *   2  a side over 2,048, vectors_len not 3 x n, or a diagonal of 0 or less
  *   4  an index not from 0 to n - 1

@@ -1,5 +1,6 @@
 /* A host in C, linked with libhirupango.a: calls every export on good and on bad input. Its last line counts. */
 #include "expect.h"
+#include "marks.h"
 
 static int passed, failed;
 
@@ -22,10 +23,6 @@ void expect_answer(const char *asked, uint32_t number, uint32_t answered, uint32
     uint32_t read = after[0] | (uint32_t)after[1] << 8 | (uint32_t)after[2] << 16 | (uint32_t)after[3] << 24;
     expect(read == value, asked, read, value);
     expect(memcmp(before + 4, after + 4, length - 4) == 0, asked, -2, length);
-}
-
-static int32_t mark_of(size_t i) {
-    return (int32_t)((uint32_t)i * 2654435761u ^ 0x5a5a5a5au);
 }
 
 void mark(int32_t *words, size_t count) {

@@ -1,4 +1,5 @@
-/* Planning's refusals, each way into one: the case one step outside with its number, and its neighbour inside with 0. */
+/* Planning's refusals, each way into one: the case one step outside with its number, and its neighbour inside with 0. Then
+ * the run of three bad blocks that the paper names. */
 #include "../../include/hirupango.h"
 #include "expect.h"
 #include "unread.h"
@@ -411,6 +412,24 @@ static void several(void) {
     }
 }
 
+/* ---- a bad block out of its limits, then two inside: the second block's samples are those at the first one's origin, the
+ * third block reads its own */
+static void run_of_three(void) {
+    static const int32_t places[] = {1, 1, 0, 0, 1, 0, 0, 1}, full[] = {8 * 64 + 56, 8 * 64 + 8, 8},
+                         chroma[] = {4 * 32 + 28, 4 * 32 + 4, 4};
+    base();
+    memcpy(order, places, sizeof places);
+    vector(3, -200, 0, POOR);
+    vector(0, 0, 0, POOR);
+    vector(1, 0, 0, POOR);
+    asked("run of three", 0);
+    for (int i = 0; i < 3; i++) {
+        const int32_t *record = records + WORDS * i;
+        expect(record[0] == full[i], "run of three, full", record[0], full[i]);
+        expect(record[2] == chroma[i] && record[3] == chroma[i], "run of three, chroma", record[2], chroma[i]);
+    }
+}
+
 void plan_refusals_tests(void) {
     search_and_block();
     grid_and_order();
@@ -425,4 +444,5 @@ void plan_refusals_tests(void) {
     lambdas();
     positions_and_windows();
     several();
+    run_of_three();
 }

@@ -1,4 +1,5 @@
 #include "lines.h"
+#include "../marks.h"
 
 enum { MORE = 5, BEHIND = 3 };
 
@@ -25,15 +26,11 @@ int32_t *take_words(struct numbers *from, size_t count) {
     return words;
 }
 
-static int32_t mark(size_t i) {
-    return (int32_t)((uint32_t)i * 2654435761u ^ 0x5a5a5a5au);
-}
-
 struct lent lend(size_t needed, size_t line) {
     struct lent buffer = {NULL, needed + line % 2 * MORE, 0};
     buffer.whole = buffer.length + BEHIND;
     buffer.at = malloc(buffer.whole * sizeof *buffer.at);
-    for (size_t i = 0; i < buffer.whole; i++) buffer.at[i] = mark(i);
+    for (size_t i = 0; i < buffer.whole; i++) buffer.at[i] = mark_of(i);
     return buffer;
 }
 
@@ -45,7 +42,7 @@ bool holds(struct lent buffer, size_t count, struct numbers *answers) {
     for (size_t i = 0; i < count; i++)
         if (buffer.at[i] != take(answers)) return false;
     for (size_t i = count; i < buffer.whole; i++)
-        if (buffer.at[i] != mark(i)) return false;
+        if (buffer.at[i] != mark_of(i)) return false;
     return true;
 }
 

@@ -27,8 +27,8 @@ bool used_up(const struct numbers *from);
 /* So many of them as 32-bit words, or none where there are fewer. The caller frees them. */
 int32_t *take_words(struct numbers *from, size_t count);
 
-/* A lent buffer of needed words and, on every other line, some more. Behind what is lent stand words that are not. Each holds a
- * mark of its own before the call. */
+/* A lent buffer of needed words and, on every other line, some more. Behind what is lent stand words that are not. Each
+ * holds its mark before the call. */
 struct lent {
     int32_t *at;
     size_t length, whole;

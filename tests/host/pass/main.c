@@ -1,5 +1,5 @@
-/* pass KIND < LINES: asks an exported function what the Rust was asked, and compares every number. Names each line that differs; its last
- * line counts. */
+/* pass KIND < LINES: asks an exported function what the Rust was asked, and compares every number. Names each line that
+ * differs; its last line counts. */
 #include "lines.h"
 
 long read(int file, void *to, size_t n);
@@ -42,7 +42,7 @@ static bool read_number(const char **at, int64_t *number) {
     return true;
 }
 
-/* A line's numbers up to its end; split is where the answers begin. A word that is no number ends the reading: the line differs. */
+/* A line's numbers up to its end; split is where the answers begin. A line with a word that is no number differs. */
 static bool read_line(const char **at, int64_t *numbers, size_t *count, size_t *split) {
     bool parted = false, good = true;
     *count = 0;
