@@ -102,7 +102,6 @@ uint32_t hirupango_plan(struct hirupango_settings settings, const int32_t *order
                         const uint8_t *v, size_t v_len, int32_t *records, size_t records_len, int32_t *indices,
                         size_t indices_len);
 
-<<<<<<< ours
 /* What evaluating is asked for. Handed over by value. */
 struct hirupango_request {
     bool satd; /* SATD, or else SAD */
@@ -127,15 +126,10 @@ uint32_t hirupango_evaluate(struct hirupango_request request, const int32_t *rec
                             size_t reference_u_len, const uint8_t *reference_v, size_t reference_v_len, int32_t *bests,
                             size_t bests_len);
 
-/* Finishing. n is nx x ny. indices name blocks of the grid; bests are x, y, SAD and average for each index. On 0 the vectors of
- * the blocks named are stored, x, y and SAD in vectors from 3 x index on; where output is asked for, its words 2 x index and 2 x index + 1
- * are the block's two output words. Of two entries with one index the later wins, and everything else stays.
-=======
 /* Finishing. n is nx x ny. indices name blocks of the grid; bests are x, y, SAD and average for each index. On 0 the vectors
  * of the blocks named are stored, x, y and SAD in vectors from 3 x index on; where output is asked for, the block's two
  * output words are stored in output from 2 x index on. Of two entries with one index the later wins, and everything else
  * stays.
->>>>>>> theirs
  *   1  a side below 2
  *   2  a side over 2,048, vectors_len not 3 x n, or a diagonal of 0 or less
  *   4  an index not from 0 to n - 1
