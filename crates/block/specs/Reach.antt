@@ -154,11 +154,11 @@ module _ {s : Settings} {b : Block} (k : Ready s b) where
         y = omega signed;
       }
 
-  across-inside : Stands (shapeOf s b .across)
+  pub across-inside : Stands (shapeOf s b .across)
   unfolding shapeOf axisOf
   across-inside = origin-inside (k .across) (negativeOf (s .level) (s .grid) b)
 
-  down-inside : Stands (shapeOf s b .down)
+  pub down-inside : Stands (shapeOf s b .down)
   unfolding shapeOf axisOf
   down-inside = origin-inside (k .down) (negativeOf (s .level) (s .grid) b)
 

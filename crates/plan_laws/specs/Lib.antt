@@ -1,4 +1,5 @@
 pub mod Windows
+pub mod Places
 pub mod Sources
 pub mod ReadBack
 pub mod NeverWide
