@@ -1,5 +1,5 @@
 -- What `Fair` leaves of a block's numbers, and how large its costs are. Assumes nothing.
-use mathlib.Core.Path.{_≡_, refl, sym}
+use mathlib.Core.Path.{_≡_, refl, sym, ap, _∙_}
 use mathlib.Core.Bool.{Bool, true, false, cond, _&&_, _||_}
 use mathlib.Core.List.{List}
 use mathlib.Core.Logic.{⊎-elim}
@@ -8,15 +8,16 @@ use native.Mathlib.Omega.{arith}
 use lib.IntN.{ℤ, pos, negsuc, natAbs}
 use lib.ListN.{getD}
 use lib.Signed.{ltZ, shrZ}
-use Rattle.whole.specs.Numbers.{liesIn}
+use mir.Syntax.{w32}
+use mir.Val.{toZ, ofZ}
 use Rattle.whole.specs.Signed.{signed, holds}
 use Rattle.whole.specs.Truth.{left-of, right-of, either-of, lies-low, lies-high, five-of}
-use Rattle.whole.specs.Interval.{Within, within-more}
+use Rattle.whole.specs.Interval.{Within, within-more, is-within, read-within}
 use Rattle.limits.specs.Limits.{same, isBlock, shiftedBy}
 use Rattle.records.specs.declared.Offset.{Offset}
 use Rattle.records.specs.declared.Pair.{Pair}
 use Rattle.records.specs.declared.Record.{Record}
-use Rattle.records.specs.Packing.{partFits, pairFits, pairsFit}
+use Rattle.records.specs.Packing.{partFits, pairFits}
 use Rattle.window.specs.Windows.{isNegative}
 use Rattle.distance.specs.Distance.{Block, blockOf}
 use Rattle.plane.specs.declared.Place.{Place}
@@ -25,13 +26,12 @@ use Rattle.plane.specs.Reads.{placed-byte, source-byte, gathered-rows, gathered
 use Rattle.plane.specs.Averages.{Power}
 use Rattle.choosing.specs.declared.Choice.{Choice}
 use Rattle.choosing.specs.Choosing.{selected}
-use Rattle.choosing.specs.Bounds.{Small}
 use Rattle.tables.specs.declared.Reference.{Reference}
-use Rattle.tables.specs.Tables.{vectorCost, tableOf, joined}
-use Rattle.tables.specs.Bounds.{Reached, Packed, Most}
-use Rattle.tables.specs.Laws.{table-most, vector-most, joined-most, most-small, block-same}
+use Rattle.tables.specs.Tables.{vectorCost, tableOf}
+use Rattle.tables.specs.Bounds.{Reached, Most}
+use Rattle.tables.specs.Laws.{table-most, vector-most, joined-most, block-same}
 use Rattle.best.specs.declared.Task.{Task}
-use Rattle.best.specs.Best.{searchedOf, widthOf, heightOf, choiceOf, sourceBlock, lumaReference, lumaCost, lumaTable, chromaWidth, chromaHeight, chromaReference, chromaCost, scaleOf, planeTable, chromaTable, answered}
+use Rattle.best.specs.Best.{widthOf, heightOf, choiceOf, sourceBlock, lumaReference, lumaCost, lumaTable, chromaWidth, chromaHeight, chromaReference, chromaCost, scaleOf, planeTable, chromaTable}
 use Rattle.best.specs.Fair.{Fair}
 
 -- ---- "Block 8x8, 16x8 or 16x16": what holds at each of the three holds at every accepted block
@@ -99,6 +99,16 @@ first-within p e = part-within (p .first) (left-of (partFits (p .first)) (partFi
 second-within : (p : Pair) → pairFits p ≡ true → Within 32768 32767 (p .second)
 second-within p e = part-within (p .second) (right-of (partFits (p .first)) (partFits (p .second)) e)
 
+-- ---- what the machine reads of a number from 0 to 65536, which a pitch is, and a side
+abbrev pub Counts : ℤ → Type 0
+Counts z = Within 0 65536 z
+
+pub counts-read : {z : ℤ} → Counts z → Counts (toZ w32 (ofZ w32 z))
+counts-read p = read-within (is-within w32 p tt tt)
+
+pub natural-read : {n : ℕ} {z : ℤ} → n ≡ natAbs (toZ w32 (ofZ w32 z)) → Counts z → n ≡ natAbs z
+natural-read e p = e ∙ ap natAbs (is-within w32 p tt tt .same)
+
 -- ---- what `Fair` leaves
 module _ {task : Task} {given : Record} (fair : Fair task given) where
   pub full-sized : Sized (natAbs (task .block .x)) (natAbs (task .block .y))
@@ -119,6 +129,12 @@ module _ {task : Task} {given : Record} (fair : Fair task given) where
 
   pub height-in : Within 0 16 (task .block .y)
   height-in = side-y (task .block .x) (task .block .y) (fair .block-in)
+
+  pub width-counts : Counts (task .block .x)
+  width-counts = within-more width-in tt tt
+
+  pub height-counts : Counts (task .block .y)
+  height-counts = within-more height-in tt tt
 
   pairs-in : (pairFits (given .pos) ≡ true) × (pairFits (given .cpos) ≡ true) × (pairFits (given .predictor) ≡ true) × (pairFits (given .«window_x») ≡ true) × (pairFits (given .«window_y») ≡ true)
   pairs-in = five-of (pairFits (given .pos)) (pairFits (given .cpos)) (pairFits (given .predictor)) (pairFits (given .«window_x»)) (pairFits (given .«window_y»)) (fair .pairs)
@@ -151,12 +167,14 @@ module _ {task : Task} {given : Record} (fair : Fair task given) where
       by (negsuc n) p = absurd (omega arith)
 
   -- ---- how large costs are, between bytes
+  pub luma-cost-most : (luma reference : List ℕ) → ((n : ℕ) → getD luma n 0 < 256) → ((n : ℕ) → getD reference n 0 < 256) → (x y : ℤ) → lumaCost task given luma reference x y ≤ 130560
+  luma-cost-most luma reference p q =
+      vector-most (task .measure) (widthOf task given) (heightOf task given) (sourceBlock task given luma) reference (lumaReference task given) (searched-sized .wide) (searched-sized .high)
+      (λ y x. source-byte luma p (natAbs (task .source .luma .pitch)) (given .full) (given .overlay) (natAbs (task .block .x)) (natAbs (task .block .y)) (y * widthOf task given + x)) q
+
   pub luma-most : (luma reference : List ℕ) → ((n : ℕ) → getD luma n 0 < 256) → ((n : ℕ) → getD reference n 0 < 256) → Most 130560 (lumaTable task given luma reference)
   unfolding lumaTable
-  luma-most luma reference p q =
-      table-most 130560 (choiceOf task given) (lumaCost task given luma reference)
-      (vector-most (task .measure) (widthOf task given) (heightOf task given) (sourceBlock task given luma) reference (lumaReference task given) (searched-sized .wide) (searched-sized .high)
-      (λ y x. source-byte luma p (natAbs (task .source .luma .pitch)) (given .full) (given .overlay) (natAbs (task .block .x)) (natAbs (task .block .y)) (y * widthOf task given + x)) q)
+  luma-most luma reference p q = table-most 130560 (choiceOf task given) (lumaCost task given luma reference) (luma-cost-most luma reference p q)
 
   pub plane-most : (origin : Offset) (source : Place) (pitch : ℤ) (samples reference : List ℕ) → ((n : ℕ) → getD samples n 0 < 256) → ((n : ℕ) → getD reference n 0 < 256) →
       Most 130560 (planeTable task given origin source pitch samples reference)

@@ -1,3 +1,4 @@
 pub mod Best
 pub mod Fair
 pub mod Laws
+pub mod Zero

@@ -9,13 +9,13 @@ use tables::Reference;
 ghost use mathlib.Core.Path.{_≡_};
 ghost use mathlib.Core.Bool.{true};
 ghost use Prim.Native.Nat.{_^_};
-ghost use lib.IntN.{ℤ, natAbs};
+ghost use lib.IntN.{natAbs};
 ghost use Rattle.whole.specs.Interval.{Within};
 ghost use Rattle.limits.specs.Limits.{shiftedBy};
 ghost use Rattle.window.specs.Windows.{isBad};
 ghost use Rattle.plane.specs.Places.{Placed};
 ghost use Rattle.choosing.specs.Bounds.{Small};
-ghost use Rattle.best.specs.Best.{searchedOf, choiceOf, lumaReference, lumaTable, chromaReference, planeTable, chromaTable, averageAt, answered, bestOf};
+ghost use Rattle.best.specs.Best.{searchedOf, widthOf, heightOf, choiceOf, lumaReference, lumaTable, chromaReference, planeTable, chromaTable, averageAt, answered, bestOf};
 ghost use Rattle.best.specs.Fair.{Fair};
 
 // What all records share. The shift is the horizontal one.
@@ -55,32 +55,54 @@ fn choice_of(task: Task, given: Record) -> Choice
     }
 }
 
-// ---- sides
+// ---- sides and pitches
+fn natural(z: i32) -> usize
+    requires { ⌜ Within 0 65536 z ⌝ }
+    ensures { λ r. ⌜ r ≡ natAbs z ⌝ }
+{
+    z as usize
+}
+
 fn searched(negative: bool, side: i32) -> usize
     requires { ⌜ Within 0 16 side ⌝ }
     ensures { λ r. ⌜ r ≡ searchedOf negative side ⌝ }
 {
     if negative {
-        return (side >> 1) as usize;
+        return natural(side >> 1);
     }
-    side as usize
+    natural(side)
+}
+
+fn width_of(task: Task, given: Record) -> usize
+    requires { ⌜ Fair task given ⌝ }
+    ensures { λ r. ⌜ r ≡ widthOf task given ⌝ }
+{
+    let sides = task.block;
+    let side = sides.x;
+    searched(window::is_negative(given), side)
+}
+
+fn height_of(task: Task, given: Record) -> usize
+    requires { ⌜ Fair task given ⌝ }
+    ensures { λ r. ⌜ r ≡ heightOf task given ⌝ }
+{
+    let sides = task.block;
+    let side = sides.y;
+    searched(window::is_negative(given), side)
 }
 
 fn chroma_side(side: i32, shift: i32) -> usize
     requires { ⌜ Within 0 16 side ⌝ }
     ensures { λ r. ⌜ r ≡ natAbs (shiftedBy side shift) ⌝ }
 {
-    limits::shifted(side, shift) as usize
+    natural(limits::shifted(side, shift))
 }
 
 fn scale_of(shift: i32) -> u32
     requires { ⌜ Within 0 1 shift ⌝ }
     ensures { λ r. ⌜ r ≡ 4 ^ natAbs shift ⌝ }
 {
-    if shift < 1 {
-        return 1;
-    }
-    4
+    if shift < 1 { 1 } else { 4 }
 }
 
 // ---- luma
@@ -104,12 +126,11 @@ fn luma_table(task: Task, given: Record, luma: &[u8], reference_luma: &[u8]) -> 
     ensures { λ r. ⌜ r ≡ lumaTable task given (now (luma .entry)) (now («reference_luma» .entry)) ⌝ }
 {
     let measure = task.measure;
+    let w = width_of(task, given);
+    let h = height_of(task, given);
     let sides = task.block;
     let full_w = sides.x;
     let full_h = sides.y;
-    let negative = window::is_negative(given);
-    let w = searched(negative, full_w);
-    let h = searched(negative, full_h);
     let planes = task.source;
     let place = planes.luma;
     let pitch = place.pitch;
@@ -117,11 +138,11 @@ fn luma_table(task: Task, given: Record, luma: &[u8], reference_luma: &[u8]) -> 
     let overlay = given.overlay;
     let block = plane::source_block(
         luma,
-        pitch as usize,
+        natural(pitch),
         full,
         overlay,
-        full_w as usize,
-        full_h as usize,
+        natural(full_w),
+        natural(full_h),
         h * w,
     );
     let reference = luma_reference(task, given);
@@ -167,7 +188,7 @@ fn plane_table(
     let w = chroma_side(full_w, shift);
     let h = chroma_side(full_h, shift);
     let step = source.pitch;
-    let block = plane::gather_from(samples, origin, step as usize, w, h);
+    let block = plane::gather_from(samples, origin, natural(step), w, h);
     let against = chroma_reference(task, given, pitch);
     let choice = choice_of(task, given);
     tables::table(measure, w, h, &block, reference, against, choice)
@@ -205,17 +226,13 @@ fn average_of(task: Task, given: Record, luma: &[u8]) -> i32
     requires { ⌜ Fair task given ⌝ }
     ensures { λ r. ⌜ r ≡ averageAt task given (now (luma .entry)) ⌝ }
 {
-    let sides = task.block;
-    let full_w = sides.x;
-    let full_h = sides.y;
-    let negative = window::is_negative(given);
-    let w = searched(negative, full_w);
-    let h = searched(negative, full_h);
+    let w = width_of(task, given);
+    let h = height_of(task, given);
     let planes = task.source;
     let place = planes.luma;
     let pitch = place.pitch;
     let origin = given.average;
-    plane::average(luma, origin, pitch as usize, w, h)
+    plane::average(luma, origin, natural(pitch), w, h)
 }
 
 fn answer(task: Task, given: Record, lumas: &[u32; 50], chromas: &[u32; 50], average: i32) -> Best

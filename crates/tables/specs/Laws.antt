@@ -1,6 +1,6 @@
 -- Laws of Tables: how a loop fills a table, what each slot of it holds, how large its costs are, and that they look at the block's own samples
 -- alone. Assumes nothing.
-use mathlib.Core.Path.{_≡_, refl, sym, ap, _∙_}
+use mathlib.Core.Path.{_≡_, refl, ap, _∙_}
 use mathlib.Core.Bool.{Bool, true, false, cond}
 use mathlib.Core.List.{List, [], _∷_}
 use mathlib.Core.Logic.{⊎-elim}
@@ -16,7 +16,7 @@ use lib.Signed.{ltZ}
 use Rattle.whole.specs.Signed.{lt-or-ge}
 use Rattle.whole.specs.Interval.{Within, within-either, within-shr}
 use Rattle.limits.specs.Limits.{shiftedBy}
-use Rattle.distance.specs.Distance.{Block, costOf}
+use Rattle.distance.specs.Distance.{Block}
 use Rattle.distance.specs.Laws.{Agree, Bytes, cost-most}
 use Rattle.distance.specs.Views.{cost-same}
 use Rattle.plane.specs.Reads.{sample-byte}
@@ -154,6 +154,25 @@ module _ (k : Choice) (cost : ℤ → ℤ → ℕ) where
   unfolding tableOf slotOf
   slot-candidate {j} {i} p l m =
       rows-hold (rowsOf k) j i (withPredictor k cost) l m (omega (arith, inside p l m .slot, long-start))
+
+-- in two tables joined, a slot holds its two costs together, scaled
+module _ (scale : ℕ) (u v : List ℕ) where
+  long-joined : (n : ℕ) → length (joinedUpto scale u v n) ≡ 50
+  unfolding joinedUpto
+  long-joined zero = length-replicate {A = ℕ} 50 0
+  long-joined (suc n) = simp length-set (long-joined n)
+
+  upto-holds : (n slot : ℕ) → n ≤ 50 → slot < n → getD (joinedUpto scale u v n) slot 0 ≡ (getD u slot 0 + getD v slot 0) * scale
+  unfolding joinedUpto
+  upto-holds zero slot k l = absurd (omega arith)
+  upto-holds (suc n) slot k l =
+      ⊎-elim
+      (λ (b : slot < n). getD-set-other (joinedUpto scale u v n) n slot ((getD u n 0 + getD v n 0) * scale) 0 (λ e. omega arith) ∙ upto-holds n slot (omega arith) b)
+      (λ b. let same : slot ≡ n = omega arith in rw same (getD-set-same (joinedUpto scale u v n) n ((getD u n 0 + getD v n 0) * scale) 0 (omega (arith, long-joined n))))
+      (lt-or-ge slot n)
+
+  pub slot-joined : {slot : ℕ} → slot < 50 → getD (joined scale u v) slot 0 ≡ (getD u slot 0 + getD v slot 0) * scale
+  slot-joined {slot} l = upto-holds 50 slot (omega arith) l
 
 -- ---- how large costs are
 set-most : (m : ℕ) (t : List ℕ) (at cost : ℕ) → ((slot : ℕ) → getD t slot 0 ≤ m) → cost ≤ m → (slot : ℕ) → getD (set t at cost) slot 0 ≤ m

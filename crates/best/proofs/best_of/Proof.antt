@@ -3,10 +3,9 @@ use borrow.Author.Needs.{needs}
 use mathlib.Core.Path.{_≡_, sym, ap, _∙_}
 use mathlib.Core.Bool.{true, false, cond}
 use mathlib.Core.List.{List}
-use Prim.Native.Nat.{ℕ, _<_}
+use Prim.Native.Nat.{ℕ}
 use native.Mathlib.Omega.{arith}
 use lib.IntN.{ℤ}
-use lib.ListN.{getD}
 use mir.Syntax.{w32}
 use mir.Val.{toZ, ofZ}
 use Rattle.whole.specs.Signed.{got}
@@ -16,7 +15,7 @@ use Rattle.choosing.specs.declared.Chosen.{Chosen}
 use Rattle.choosing.specs.Bounds.{Small}
 use Rattle.tables.specs.Laws.{most-zeros, most-small}
 use Rattle.best.specs.declared.Task.{Task}
-use Rattle.best.specs.Best.{averageAt, withAverage, answered, noTable, lumaTable, chromaTable, bestOf}
+use Rattle.best.specs.Best.{averageAt, withAverage, answered, noTable, bestOf}
 use Rattle.best.specs.Laws.{luma-most, chroma-most, not-looked-at}
 use Rattle.best.proofs.best_of.Statement.{statement}
 use Rattle.best.proofs.best_of.Tie as tie

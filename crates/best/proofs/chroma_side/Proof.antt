@@ -1,11 +1,11 @@
 -- A side shifted is from 0 to 16 still. Assumes nothing.
 use borrow.Author.Needs.{needs}
 use lib.IntN.{natAbs}
-use mathlib.Core.Path.{ap}
+use mathlib.Core.Path.{ap, _∙_}
 use mir.Facts.{toZ-ofZ}
-use mir.Syntax.{w32, w64}
+use mir.Syntax.{w32}
 use mir.Val.{toZ, ofZ}
-use Rattle.whole.specs.Interval.{Is, is-call, ask-unsigned}
+use Rattle.whole.specs.Interval.{Is, is-call, read-within, within-more}
 use Rattle.limits.specs.Limits.{shiftedBy}
 use Rattle.tables.specs.Laws.{shifted-within}
 use Rattle.best.proofs.chroma_side.Statement.{statement}
@@ -17,6 +17,9 @@ shifted c =
     let g = c .before .fits .shift in
     is-call w32 (c .shifted .ok) (simp toZ-ofZ at (c .shifted .ensures)) (shifted-within (c .before .args .shift) (c .before .pre))
 
+returns : tie.Need-returns
+returns c = c .natural .ensures ∙ ap natAbs ((shifted (c .before)) .same)
+
 pub chroma-side-spec : {M : Type 1} → statement M
 chroma-side-spec =
-    tie.close (tie.spec (λ c κs. search needs) (λ c. ask-unsigned w64 (shifted c) tt) (λ c. ap natAbs (shifted c .same)))
+    tie.close (tie.spec (λ c κs. search needs) (λ c κs. within-more (read-within (shifted c)) tt tt) returns)

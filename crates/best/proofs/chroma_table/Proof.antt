@@ -1,8 +1,6 @@
 -- Both planes are one function's tables; their costs are small, so that the sums fit. Assumes nothing.
 use mathlib.Core.Path.{_≡_}
-use Prim.Native.Nat.{ℕ, _<_}
 use native.Mathlib.Omega.{arith}
-use lib.ListN.{getD}
 use mir.Syntax.{w32}
 use mir.Val.{toZ, ofZ}
 use Rattle.whole.specs.Interval.{Is, is-within, read-within}

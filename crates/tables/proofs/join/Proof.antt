@@ -1,6 +1,6 @@
 -- Each slot is written once, and what is written is at most 1,044,480. Assumes nothing.
 use mathlib.Core.Path.{_≡_, sym}
-use Prim.Native.Nat.{_+_, _-_, _*_, _≤_}
+use Prim.Native.Nat.{_+_, _-_, _≤_}
 use native.Mathlib.Omega.{arith}
 use lib.ListN.{getD}
 use Rattle.tables.specs.Tables.{joinedUpto}

@@ -1,7 +1,7 @@
 -- Positions fit i16 and vectors are little longer, so that the sums fit; the offset is near, as every offset of a plane is. Assumes nothing.
 use borrow.Author.Needs.{needs}
 use mathlib.Core.Path.{_≡_}
-use lib.IntN.{ℤ, _+ℤ_, natAbs}
+use lib.IntN.{ℤ, _+ℤ_}
 use mir.Facts.{toZ-ofZ}
 use mir.Syntax.{w32, w64}
 use mir.Val.{SFits, toZ, ofZ}
