@@ -2,3 +2,4 @@ pub mod Best
 pub mod Fair
 pub mod Laws
 pub mod Zero
+pub mod NotBad
