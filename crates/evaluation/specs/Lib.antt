@@ -5,3 +5,4 @@ pub mod Accepted
 pub mod BestsLaws
 pub mod Table
 pub mod Outcome
+pub mod Zero
