@@ -99,19 +99,19 @@ not-wide : (radius : ℤ) (r : Record) → isWide radius r ≡ false → isBad r
 unfolding isWide
 not-wide radius r e b = rw b at e
 
-pub served : (task : Task) (radius : ℤ) (r : Record) → Within 0 3 radius → pairsFit r ≡ true → isWide radius r ≡ false → isBad r ≡ true → Served (choiceOf task r)
-served task radius r w pairs e b =
+-- the pairs of a record that was read fit 16 bits
+pub ranged : (task : Task) (r : Record) → pairsFit r ≡ true → Ranged (choiceOf task r)
+ranged task r pairs =
     let t = five-of (pairFits (r .pos)) (pairFits (r .cpos)) (pairFits (r .predictor)) (pairFits (r .«window_x»)) (pairFits (r .«window_y»)) pairs in
     let p = parts (r .predictor) (t .2) in
     let x = parts (r .«window_x») (t .3) in
     let y = parts (r .«window_y») (t .4) in
-    let wide = not-wide radius r e b in
-    let both = narrow (mostOf radius) (r .«window_x») (r .«window_y») (most-within radius w) wide in
-    record {
-      ranged = record { x = p .first; y = p .second; least-x = x .first; greatest-x = x .second; least-y = y .first; greatest-y = y .second };
-      narrow = λ h k. both h k .0;
-      low = λ h k. both h k .1;
-    }
+    record { x = p .first; y = p .second; least-x = x .first; greatest-x = x .second; least-y = y .first; greatest-y = y .second }
+
+pub served : (task : Task) (radius : ℤ) (r : Record) → Within 0 3 radius → pairsFit r ≡ true → isWide radius r ≡ false → isBad r ≡ true → Served (choiceOf task r)
+served task radius r w pairs e b =
+    let both = narrow (mostOf radius) (r .«window_x») (r .«window_y») (most-within radius w) (not-wide radius r e b) in
+    record { ranged = ranged task r pairs; narrow = λ h k. both h k .0; low = λ h k. both h k .1 }
 
 -- ---- the planes
 placed-of : (p : Place) (n : ℕ) {width height : ℤ} → limitsHold p ≡ true → keepsLength p n ≡ true → p .width ≡ width → p .height ≡ height →

@@ -313,6 +313,8 @@ pub record Accepted (s : Settings) (order vectors : List ℤ) (words indices : �
   pub rows : countOf (s .grid) ≤ indices
   pub framed : Framed s
   pub fit : allFit s order vectors (countOf (s .grid)) ≡ true
+  pub set : Set s
+  pub held : length vectors ≡ 3 * countOf (s .grid)
 
 pub accepted : (s : Settings) (order vectors : List ℤ) (luma u v words indices : ℕ) → refusalOf s order vectors luma u v words indices ≡ 0 → Accepted s order vectors words indices
 unfolding refusalOf
@@ -331,6 +333,8 @@ accepted s order vectors luma u v words indices e =
       rows = leb-true n indices (right-of (leb (12 * n) words) (leb n indices) (t₅ .0));
       framed = framed s (length order) (length vectors) (t₁ .0) two;
       fit = t₆ .0;
+      set = settings s (length order) (length vectors) (t₁ .0) two;
+      held = held-is s (length vectors) two;
     }
 
 -- ---- the diagonal of accepted sides is given

@@ -1,0 +1,4 @@
+pub mod Pass
+pub mod Lists
+pub mod Evaluates
+pub mod Finishes

@@ -1,0 +1,1 @@
+// Theorems alone, about planning, evaluating and finishing one behind the other: see specs/.
