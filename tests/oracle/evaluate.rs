@@ -26,7 +26,7 @@ pub(crate) struct Planes {
 }
 
 impl Planes {
-    fn read(numbers: &mut Numbers<'_>) -> Result<Self, Fault> {
+    pub(crate) fn read(numbers: &mut Numbers<'_>) -> Result<Self, Fault> {
         let mut one = || Ok::<_, Fault>((Plane::read(numbers)?, Fill::read(numbers)?));
         let three = [one()?, one()?, one()?];
         Ok(Self {
@@ -35,7 +35,7 @@ impl Planes {
         })
     }
 
-    fn numbers(&self) -> Vec<i64> {
+    pub(crate) fn numbers(&self) -> Vec<i64> {
         let mut line = Vec::new();
         for (plane, fill) in self.planes.iter().zip(&self.fills) {
             line.extend(plane.numbers());
@@ -93,7 +93,7 @@ impl EvaluateCase {
         choose::slots(self.search_param.abs())
     }
 
-    fn bests(&self) -> Vec<[i32; 4]> {
+    pub(crate) fn bests(&self) -> Vec<[i32; 4]> {
         let (source, reference) = (self.source.bytes(), self.reference.bytes());
         let source = frame(
             &self.source.planes,

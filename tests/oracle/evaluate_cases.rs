@@ -37,7 +37,7 @@ fn tiny_frame(random: &mut Random, plan: &mut PlanCase) {
 }
 
 /// The plan's source, a reference beside it, and no records yet.
-fn around(random: &mut Random, plan: &PlanCase) -> EvaluateCase {
+pub(crate) fn around(random: &mut Random, plan: &PlanCase) -> EvaluateCase {
     let source = Planes {
         planes: plan.planes,
         fills: [(); 3].map(|()| fill(random)),

@@ -2,7 +2,7 @@
 
 use crate::lines::{Fault, Numbers, Work};
 use crate::random::Random;
-use crate::{block, choose, cost, evaluate, finish, packing, plan, planes, score, serpentine};
+use crate::{block, choose, cost, evaluate, finish, packing, pass, plan, planes, score, serpentine};
 
 pub(crate) struct Kind {
     pub(crate) name: &'static str,
@@ -11,7 +11,7 @@ pub(crate) struct Kind {
     pub(crate) limits: fn() -> Vec<Vec<i64>>,
 }
 
-pub(crate) const KINDS: [Kind; 16] = [
+pub(crate) const KINDS: [Kind; 17] = [
     packing::PAIR,
     packing::UNPAIR,
     packing::RECORD,
@@ -28,6 +28,7 @@ pub(crate) const KINDS: [Kind; 16] = [
     evaluate::EVALUATE,
     choose::CHOOSE,
     finish::FINISH,
+    pass::PASS,
 ];
 
 pub(crate) fn named(name: &str) -> Option<&'static Kind> {

@@ -21,6 +21,7 @@ mod free_records;
 mod kinds;
 mod lines;
 mod packing;
+mod pass;
 mod plan;
 mod plan_cases;
 mod plan_limits;

@@ -14,7 +14,7 @@ pub(crate) const PLAN: Kind = Kind {
 };
 
 /// The Rust says only that it refuses, not why.
-const REFUSED: i64 = -1;
+pub(crate) const REFUSED: i64 = -1;
 
 #[derive(Clone)]
 pub(crate) struct PlanCase {
@@ -36,7 +36,7 @@ pub(crate) struct PlanCase {
 }
 
 impl PlanCase {
-    fn read(numbers: &mut Numbers<'_>) -> Result<Self, Fault> {
+    pub(crate) fn read(numbers: &mut Numbers<'_>) -> Result<Self, Fault> {
         Ok(Self {
             exhaustive: numbers.flag()?,
             search_param: numbers.take()?,
@@ -115,7 +115,7 @@ fn read_plan(numbers: &mut Numbers<'_>) -> Result<Work, Fault> {
     }))
 }
 
-fn answers(planned: &Planned) -> Vec<i64> {
+pub(crate) fn answers(planned: &Planned) -> Vec<i64> {
     let count = planned.indices.len() as i64;
     let mut answers = vec![0, planned.slots as i64, planned.diagonal.into(), count];
     answers.extend(planned.records.iter().map(|&word| i64::from(word)));

@@ -2,27 +2,10 @@
 
 enum { WORDS = 12, NUMBERS = 4, PLANES = 3 };
 
-/* The bytes of a plane, by the oracle's rule (tests/oracle/README.md). */
-struct bytes {
-    uint8_t *at;
-    size_t length;
-};
-
-static struct bytes filled(size_t length, uint32_t seed, uint32_t levels) {
-    struct bytes made = {malloc(length + 1), length};
-    for (size_t i = 0; i < length; i++) {
-        uint32_t h = ((uint32_t)i + seed * 7919u) * 2654435761u;
-        uint32_t g = (h + h / 32768u) * 2246822519u;
-        made.at[i] = (uint8_t)((g / 16777216u) * levels / 256u);
-    }
-    return made;
-}
-
-static struct bytes take_plane(struct numbers *from, int32_t pel, struct hirupango_place *place) {
+struct bytes take_plane(struct numbers *from, int32_t pel, struct hirupango_place *place) {
     size_t length = 0;
     *place = take_place(from, pel, &length);
-    uint32_t seed = (uint32_t)take(from), levels = (uint32_t)take(from);
-    return filled(from->short_of ? 0 : length, seed, levels);
+    return take_bytes(from, length);
 }
 
 static struct hirupango_request take_request(struct numbers *from, struct bytes planes[2 * PLANES]) {

@@ -63,3 +63,15 @@ struct hirupango_place take_place(struct numbers *from, int32_t pel, size_t *len
     *length = (size_t)take(from);
     return place;
 }
+
+struct bytes take_bytes(struct numbers *from, size_t length) {
+    uint32_t seed = (uint32_t)take(from), levels = (uint32_t)take(from);
+    struct bytes made = {NULL, from->short_of ? 0 : length};
+    made.at = malloc(made.length + 1);
+    for (size_t i = 0; i < made.length; i++) {
+        uint32_t h = ((uint32_t)i + seed * 7919u) * 2654435761u;
+        uint32_t g = (h + h / 32768u) * 2246822519u;
+        made.at[i] = (uint8_t)((g / 16777216u) * levels / 256u);
+    }
+    return made;
+}

@@ -46,9 +46,25 @@ bool holds(struct lent buffer, size_t count, struct numbers *answers);
 struct hirupango_sides take_sides(struct numbers *from);
 struct hirupango_place take_place(struct numbers *from, int32_t pel, size_t *length);
 
+/* The bytes of a plane, by the oracle's rule (tests/oracle/README.md). The caller frees them. */
+struct bytes {
+    uint8_t *at;
+    size_t length;
+};
+
+struct bytes take_bytes(struct numbers *from, size_t length);
+struct bytes take_plane(struct numbers *from, int32_t pel, struct hirupango_place *place);
+
+/* What planning is asked, and how many bytes each plane has. */
+struct hirupango_settings take_settings(struct numbers *from, size_t lengths[3], bool *satd);
+
+/* Whether a done plan's slots and diagonal are the next answers. */
+bool made_agrees(struct hirupango_settings s, struct numbers *answers);
+
 /* The kinds: whether what is answered from the inputs is what stands in the answers. */
 bool plan_agrees(size_t line, struct numbers inputs, struct numbers answers);
 bool evaluate_agrees(size_t line, struct numbers inputs, struct numbers answers);
+bool pass_agrees(size_t line, struct numbers inputs, struct numbers answers);
 bool finish_agrees(size_t line, struct numbers inputs, struct numbers answers);
 
 #endif

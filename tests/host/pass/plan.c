@@ -5,13 +5,13 @@ enum { WORDS = 12 };
 
 static const size_t MOST_READ = ((size_t)1 << 30) - 1;
 
-static struct hirupango_settings take_settings(struct numbers *from, size_t lengths[3]) {
+struct hirupango_settings take_settings(struct numbers *from, size_t lengths[3], bool *satd) {
     struct hirupango_settings s;
     s.search.exhaustive = take(from) != 0;
     s.search.search_param = (int32_t)take(from);
     s.weights.lambda = (int32_t)take(from);
     s.weights.bad_sad = (int32_t)take(from);
-    take(from); /* the measure, which planning does not look at */
+    *satd = take(from) != 0; /* which planning does not look at */
     s.block = take_sides(from);
     s.grid = take_sides(from);
     s.step = take_sides(from);
@@ -43,6 +43,11 @@ static bool diagonal_agrees(struct hirupango_settings s, int64_t diagonal) {
     return word_of(number, out) == diagonal;
 }
 
+bool made_agrees(struct hirupango_settings s, struct numbers *answers) {
+    int64_t slots = take(answers), diagonal = take(answers);
+    return slots_agree(s.search.search_param, slots) && diagonal_agrees(s, diagonal);
+}
+
 /* Where the Rust refuses it says only so. Here that is 1 or 6, or 3 where a plane's data are too long. */
 static bool is_refusal(uint32_t number, const size_t lengths[3]) {
     bool too_long = lengths[0] > MOST_READ || lengths[1] > MOST_READ || lengths[2] > MOST_READ;
@@ -51,8 +56,7 @@ static bool is_refusal(uint32_t number, const size_t lengths[3]) {
 
 static bool done_agrees(struct hirupango_settings s, size_t n, struct lent records, struct lent indices,
                         struct numbers answers) {
-    return take(&answers) == 0 && slots_agree(s.search.search_param, take(&answers)) &&
-           diagonal_agrees(s, take(&answers)) && take(&answers) == (int64_t)n &&
+    return take(&answers) == 0 && made_agrees(s, &answers) && take(&answers) == (int64_t)n &&
            holds(records, WORDS * n, &answers) && holds(indices, n, &answers) && used_up(&answers);
 }
 
@@ -65,7 +69,8 @@ static bool refused_agrees(uint32_t number, const size_t lengths[3], struct lent
 
 bool plan_agrees(size_t line, struct numbers inputs, struct numbers answers) {
     size_t lengths[3];
-    struct hirupango_settings s = take_settings(&inputs, lengths);
+    bool satd;
+    struct hirupango_settings s = take_settings(&inputs, lengths, &satd);
     size_t n = (size_t)take(&inputs);
     int32_t *order = take_words(&inputs, 2 * n);
     size_t held = (size_t)take(&inputs);

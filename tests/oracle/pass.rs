@@ -1,0 +1,121 @@
+//! The kind pass: planning, evaluating and finishing one behind the other.
+
+use std::collections::HashSet;
+
+use crate::analyse::field::recalc::inside::{self, Planned};
+use crate::evaluate::{EvaluateCase, Planes};
+use crate::evaluate_cases;
+use crate::finish::FinishCase;
+use crate::kinds::Kind;
+use crate::lines::{Fault, Numbers, Work};
+use crate::plan::{self, PlanCase};
+use crate::plan_cases;
+use crate::planes::Fill;
+use crate::random::Random;
+
+pub(crate) const PASS: Kind = Kind {
+    name: "pass",
+    read: read_pass,
+    random: |random| random_pass(random).numbers(),
+    limits: Vec::new,
+};
+
+struct PassCase {
+    plan: PlanCase,
+    output: bool,
+    /// What evaluating is asked beside the plan; its records are the plan's.
+    evaluate: EvaluateCase,
+}
+
+impl PassCase {
+    fn read(numbers: &mut Numbers<'_>) -> Result<Self, Fault> {
+        let plan = PlanCase::read(numbers)?;
+        let (pnew, output) = (numbers.take()?, numbers.flag()?);
+        let fills = [
+            Fill::read(numbers)?,
+            Fill::read(numbers)?,
+            Fill::read(numbers)?,
+        ];
+        let source = Planes {
+            planes: plan.planes,
+            fills,
+        };
+        let evaluate = EvaluateCase {
+            satd: plan.satd,
+            pel: plan.pel,
+            shift: plan.shift,
+            block: (plan.block.0 as usize, plan.block.1 as usize),
+            search_param: plan.search_param.into(),
+            pnew,
+            source,
+            reference: Planes::read(numbers)?,
+            records: Vec::new(),
+        };
+        Ok(Self {
+            plan,
+            output,
+            evaluate,
+        })
+    }
+
+    fn numbers(&self) -> Vec<i64> {
+        let mut line = self.plan.numbers();
+        line.extend([i64::from(self.evaluate.pnew), self.output.into()]);
+        for fill in &self.evaluate.source.fills {
+            line.extend([i64::from(fill.seed), fill.levels.into()]);
+        }
+        line.extend(self.evaluate.reference.numbers());
+        line
+    }
+
+    fn answers(&self) -> Vec<i64> {
+        let Some(planned) = self.plan.plan() else {
+            return vec![plan::REFUSED];
+        };
+        let mut answers = plan::answers(&planned);
+        let mut evaluate = self.evaluate.clone();
+        evaluate.records.clone_from(&planned.records);
+        let bests = evaluate.bests();
+        answers.extend(bests.as_flattened().iter().map(|&number| i64::from(number)));
+        answers.extend(self.finished(&planned, bests));
+        answers
+    }
+
+    /// The vectors of the grid, of which those that no entry names are as they were, and the output words.
+    fn finished(&self, planned: &Planned, bests: Vec<[i32; 4]>) -> Vec<i64> {
+        let named: HashSet<usize> = planned.indices.iter().map(|&at| at as usize).collect();
+        let (mut vectors, output) = inside::finish(&FinishCase {
+            grid: self.plan.grid,
+            diagonal: planned.diagonal,
+            output: self.output,
+            indices: planned.indices.clone(),
+            bests,
+        });
+        for (at, vector) in vectors.iter_mut().enumerate() {
+            if !named.contains(&at) {
+                *vector = self.plan.vectors[at];
+            }
+        }
+        let vectors = vectors
+            .iter()
+            .flat_map(|&(x, y, sad)| [x.into(), y.into(), sad.into()]);
+        vectors
+            .chain(output.iter().map(|&word| i64::from(word as i32)))
+            .collect()
+    }
+}
+
+fn read_pass(numbers: &mut Numbers<'_>) -> Result<Work, Fault> {
+    let case = PassCase::read(numbers)?;
+    Ok(Box::new(move || case.answers()))
+}
+
+fn random_pass(random: &mut Random) -> PassCase {
+    let plan = plan_cases::small(random);
+    let evaluate = evaluate_cases::around(random, &plan);
+    PassCase {
+        plan,
+        output: !random.one_in(4),
+        evaluate,
+    }
+}
