@@ -103,6 +103,10 @@ module _ (task : Task) (given : Record) where
       (planeTable (given .u) (task .source .u) (task .reference .u .pitch) u referenceU)
       (planeTable (given .v) (task .source .v) (task .reference .v .pitch) v referenceV)
 
+  -- "plain blocks only": a negative block has no chroma
+  unfoldable pub chromasOf : List ℕ → List ℕ → List ℕ → List ℕ → List ℕ
+  chromasOf u v referenceU referenceV = cond (isNegative given) noTable (chromaTable u v referenceU referenceV)
+
   -- ---- "The average is the sum shifted by log2 of the area", over the sides searched, whether the block is bad or not
   abbrev pub averageAt : List ℕ → ℤ
   averageAt luma = pos (averageOf luma (natAbs (task .source .luma .pitch)) (given .average) widthOf heightOf)
@@ -116,4 +120,4 @@ module _ (task : Task) (given : Record) where
 
   unfoldable pub bestOf : List ℕ → List ℕ → List ℕ → List ℕ → List ℕ → List ℕ → Best
   bestOf luma u v referenceLuma referenceU referenceV =
-      answered (lumaTable luma referenceLuma) (cond (isNegative given) noTable (chromaTable u v referenceU referenceV)) (averageAt luma)
+      answered (lumaTable luma referenceLuma) (chromasOf u v referenceU referenceV) (averageAt luma)

@@ -5,6 +5,7 @@ use mathlib.Core.List.{List}
 use mathlib.Core.Logic.{⊎-elim}
 use Prim.Native.Nat.{ℕ, zero, suc, _+_, _*_, _/_, _^_, _≤_, _<_}
 use native.Mathlib.Omega.{arith}
+use lib.Dec.{T, leb, leb→le}
 use lib.IntN.{ℤ, pos, negsuc, natAbs}
 use lib.ListN.{getD}
 use lib.Signed.{ltZ, shrZ}
@@ -31,7 +32,7 @@ use Rattle.tables.specs.Tables.{vectorCost, tableOf}
 use Rattle.tables.specs.Bounds.{Reached, Most}
 use Rattle.tables.specs.Laws.{table-most, vector-most, joined-most, block-same}
 use Rattle.best.specs.declared.Task.{Task}
-use Rattle.best.specs.Best.{widthOf, heightOf, choiceOf, sourceBlock, lumaReference, lumaCost, lumaTable, chromaWidth, chromaHeight, chromaReference, chromaCost, scaleOf, planeTable, chromaTable}
+use Rattle.best.specs.Best.{noTable, widthOf, heightOf, choiceOf, sourceBlock, lumaReference, lumaCost, lumaTable, chromaWidth, chromaHeight, chromaReference, chromaCost, scaleOf, planeTable, chromaTable, chromasOf}
 use Rattle.best.specs.Fair.{Fair}
 
 -- ---- "Block 8x8, 16x8 or 16x16": what holds at each of the three holds at every accepted block
@@ -69,25 +70,18 @@ pub record Sized (w h : ℕ) : Type 0 where
   pub rows : 4 * (h / 4) ≡ h
   pub power : Power w h
 
-sized-16-16 : Sized 16 16
-sized-16-16 = record { some = omega arith; wide = omega arith; tall = omega arith; high = omega arith; columns = refl; rows = refl; power = refl }
-
-sized-16-8 : Sized 16 8
-sized-16-8 = record { some = omega arith; wide = omega arith; tall = omega arith; high = omega arith; columns = refl; rows = refl; power = refl }
-
-sized-8-8 : Sized 8 8
-sized-8-8 = record { some = omega arith; wide = omega arith; tall = omega arith; high = omega arith; columns = refl; rows = refl; power = refl }
-
-sized-8-4 : Sized 8 4
-sized-8-4 = record { some = omega arith; wide = omega arith; tall = omega arith; high = omega arith; columns = refl; rows = refl; power = refl }
-
-sized-4-4 : Sized 4 4
-sized-4-4 = record { some = omega arith; wide = omega arith; tall = omega arith; high = omega arith; columns = refl; rows = refl; power = refl }
+sized : (m n : ℕ) → T (leb 1 m) → T (leb m 4) → T (leb 1 n) → T (leb n 4) → Power (4 * m) (4 * n) → Sized (4 * m) (4 * n)
+sized m n a b c d e =
+    let some = leb→le 1 m a in
+    let wide = leb→le m 4 b in
+    let tall = leb→le 1 n c in
+    let high = leb→le n 4 d in
+    record { some = omega arith; wide = omega arith; tall = omega arith; high = omega arith; columns = omega arith; rows = omega arith; power = e }
 
 -- a block's own sides, and halved
 halved-or-not : (halve : Bool) (w h : ℤ) → isBlock w h ≡ true → Sized (natAbs (cond halve (shrZ w 2) w)) (natAbs (cond halve (shrZ h 2) h))
-halved-or-not true = at-each-block (λ x y. Sized (natAbs (shrZ x 2)) (natAbs (shrZ y 2))) sized-4-4 sized-8-4 sized-8-8
-halved-or-not false = at-each-block (λ x y. Sized (natAbs x) (natAbs y)) sized-8-8 sized-16-8 sized-16-16
+halved-or-not true = at-each-block (λ x y. Sized (natAbs (shrZ x 2)) (natAbs (shrZ y 2))) (sized 1 1 tt tt tt tt refl) (sized 2 1 tt tt tt tt refl) (sized 2 2 tt tt tt tt refl)
+halved-or-not false = at-each-block (λ x y. Sized (natAbs x) (natAbs y)) (sized 2 2 tt tt tt tt refl) (sized 4 2 tt tt tt tt refl) (sized 4 4 tt tt tt tt refl)
 
 -- ---- parts that fit i16
 part-within : (z : ℤ) → partFits z ≡ true → Within 32768 32767 z
@@ -108,6 +102,11 @@ counts-read p = read-within (is-within w32 p tt tt)
 
 pub natural-read : {n : ℕ} {z : ℤ} → n ≡ natAbs (toZ w32 (ofZ w32 z)) → Counts z → n ≡ natAbs z
 natural-read e p = e ∙ ap natAbs (is-within w32 p tt tt .same)
+
+-- ---- references put together of equal parts are equal
+pub alike-references : {p P : Place} {a b c d A B C D : ℤ} → p ≡ P → a ≡ A → b ≡ B → c ≡ C → d ≡ D →
+    _≡_ {A = Reference} (record { place = p; pitch = a; x = b; y = c; shift = d }) (record { place = P; pitch = A; x = B; y = C; shift = D })
+alike-references e f g h i = cc
 
 -- ---- what `Fair` leaves
 module _ {task : Task} {given : Record} (fair : Fair task given) where
@@ -189,6 +188,22 @@ module _ {task : Task} {given : Record} (fair : Fair task given) where
   unfolding chromaTable
   chroma-most u v referenceU referenceV p q r s =
       joined-most (plane-most (given .u) (task .source .u) (task .reference .u .pitch) u referenceU p r) (plane-most (given .v) (task .source .v) (task .reference .v .pitch) v referenceV q s) scale-most
+
+-- ---- which chroma table counts
+first-taken : (t : Bool) (a b : List ℕ) → t ≡ true → a ≡ cond t a b
+first-taken t a b e = rw e
+
+second-taken : (t : Bool) (a b : List ℕ) → t ≡ false → b ≡ cond t a b
+second-taken t a b e = rw e
+
+module _ (task : Task) (given : Record) (u v referenceU referenceV : List ℕ) where
+  pub no-chroma : isNegative given ≡ true → noTable ≡ chromasOf task given u v referenceU referenceV
+  unfolding chromasOf
+  no-chroma e = first-taken (isNegative given) noTable (chromaTable task given u v referenceU referenceV) e
+
+  pub some-chroma : isNegative given ≡ false → chromaTable task given u v referenceU referenceV ≡ chromasOf task given u v referenceU referenceV
+  unfolding chromasOf
+  some-chroma e = second-taken (isNegative given) noTable (chromaTable task given u v referenceU referenceV) e
 
 -- ---- a table of gathered samples is that of the block
 module _ (k : Choice) (measure : Bool) (w h : ℕ) (samples : List ℕ) (r : Reference) {out : List ℕ} (wide : w ≤ 16) (high : h ≤ 16) where

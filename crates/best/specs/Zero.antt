@@ -26,7 +26,7 @@ use Rattle.tables.specs.Tables.{referenceBlock, tableOf}
 use Rattle.tables.specs.Laws.{inside, slot-0, slot-candidate, slot-joined}
 use Rattle.best.specs.declared.Task.{Task}
 use Rattle.best.specs.declared.Best.{Best}
-use Rattle.best.specs.Best.{noTable, widthOf, heightOf, choiceOf, sourceBlock, lumaReference, lumaCost, lumaTable, chromaWidth, chromaHeight, chromaReference, uCost, vCost, scaleOf, planeTable, chromaTable, bestOf}
+use Rattle.best.specs.Best.{noTable, widthOf, heightOf, choiceOf, sourceBlock, lumaReference, lumaCost, lumaTable, chromaWidth, chromaHeight, chromaReference, uCost, vCost, scaleOf, planeTable, chromaTable, chromasOf, bestOf}
 use Rattle.best.specs.Fair.{Fair}
 use Rattle.best.specs.Laws.{Sized, searched-sized, chroma-sized, luma-cost-most}
 
@@ -97,7 +97,7 @@ module _ (task : Task) (given : Record) (luma u v referenceLuma referenceU refer
   lumas = lumaTable task given luma referenceLuma
 
   abbrev chromas : List ℕ
-  chromas = cond (isNegative given) noTable (chromaTable task given u v referenceU referenceV)
+  chromas = chromasOf task given u v referenceU referenceV
 
   -- a slot is a vector's where every table has the vector's cost there
   abbrev Of : ℤ → ℤ → ℕ → Type 0
@@ -119,6 +119,7 @@ module _ (task : Task) (given : Record) (luma u v referenceLuma referenceU refer
         both e f = omega arith
 
     held : heldAt k lumas chromas slot ≡ pos (costAt x y)
+    unfolding chromasOf
     held = ap pos (omega (arith, luma-held, chroma-held (isNegative given)))
 
   module _ (fair : Fair task given) (bad : isBad given ≡ true) (other : liesIn (pos 1) (pos 1) (task .pel) ≡ false) where

@@ -139,7 +139,7 @@ pub counted-between : (least greatest : ℤ) (n : ℕ) → n < countOf least gre
 unfolding countOf
 counted-between least greatest n h = by-order (leZ least greatest) least greatest n refl h
 
-rows-counted : (t : Bool) (n j : ℕ) → j < cond t 0 n → j < n
+pub rows-counted : (t : Bool) (n j : ℕ) → j < cond t 0 n → j < n
 rows-counted true n j h = absurd (omega arith)
 rows-counted false n j h = h
 

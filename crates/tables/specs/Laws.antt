@@ -1,7 +1,7 @@
 -- Laws of Tables: how a loop fills a table, what each slot of it holds, how large its costs are, and that they look at the block's own samples
 -- alone. Assumes nothing.
-use mathlib.Core.Path.{_≡_, refl, ap, _∙_}
-use mathlib.Core.Bool.{Bool, true, false, cond}
+use mathlib.Core.Path.{_≡_, refl, sym, ap, _∙_}
+use mathlib.Core.Bool.{Bool}
 use mathlib.Core.List.{List, [], _∷_}
 use mathlib.Core.Logic.{⊎-elim}
 use Prim.Native.Nat.{ℕ, zero, suc, _+_, _*_, _≤_, _<_}
@@ -23,6 +23,7 @@ use Rattle.plane.specs.Reads.{sample-byte}
 use Rattle.choosing.specs.declared.Choice.{Choice}
 use Rattle.choosing.specs.Choosing.{countOf, columnsOf, rowsOf, slotOf}
 use Rattle.choosing.specs.Bounds.{Served, Small}
+use Rattle.choosing.specs.Answers.{rows-counted}
 use Rattle.tables.specs.declared.Reference.{Reference}
 use Rattle.tables.specs.Tables.{referenceBlock, vectorCost, candidateCost, withRow, withRows, withPredictor, tableOf, joinedUpto, joined}
 use Rattle.tables.specs.Bounds.{Most}
@@ -49,6 +50,10 @@ module _ (k : Choice) (cost : ℤ → ℤ → ℕ) where
   unfolding withRows
   rows-none t = refl
 
+  -- with no rows yet, the predictor's cost stands in slot 0 of zeros
+  pub predictor-first : {first : ℕ} → first ≡ cost (k .x) (k .y) → set (replicate 50 0) 0 first ≡ withRows k cost 0 (withPredictor k cost)
+  predictor-first e = ap (λ (n : ℕ). set {A = ℕ} (replicate 50 0) 0 n) e ∙ sym (rows-none (withPredictor k cost))
+
   pub rows-next : (n : ℕ) (t : List ℕ) → withRows k cost (n + 1) t ≡ withRow k cost n (columnsOf k) (withRows k cost n t)
   unfolding withRows
   rows-next n t = rw add-one
@@ -67,10 +72,6 @@ module _ (scale : ℕ) (u v : List ℕ) where
   joined-next n = rw add-one
 
 -- ---- a candidate's slot lies in the table, and no two have one slot
-rows-counted : (t : Bool) (n j : ℕ) → j < cond t 0 n → j < n
-rows-counted true n j h = absurd (omega arith)
-rows-counted false n j h = h
-
 pub record Inside (k : Choice) (j i : ℕ) : Type 0 where
   pub row : j < 7
   pub column : i < 7

@@ -1,31 +1,21 @@
 -- Three ways out: a bad block that is negative, a bad plain one, and one that isn't bad. Assumes nothing.
 use borrow.Author.Needs.{needs}
 use mathlib.Core.Path.{_≡_, sym, ap, _∙_}
-use mathlib.Core.Bool.{true, false, cond}
+use mathlib.Core.Bool.{true, false}
 use mathlib.Core.List.{List}
 use Prim.Native.Nat.{ℕ}
 use native.Mathlib.Omega.{arith}
-use lib.IntN.{ℤ}
 use mir.Syntax.{w32}
 use mir.Val.{toZ, ofZ}
 use Rattle.whole.specs.Signed.{got}
 use Rattle.window.specs.Windows.{isBad, isNegative}
-use Rattle.records.specs.declared.Record.{Record}
 use Rattle.choosing.specs.declared.Chosen.{Chosen}
 use Rattle.choosing.specs.Bounds.{Small}
 use Rattle.tables.specs.Laws.{most-zeros, most-small}
-use Rattle.best.specs.declared.Task.{Task}
-use Rattle.best.specs.Best.{averageAt, withAverage, answered, noTable, bestOf}
-use Rattle.best.specs.Laws.{luma-most, chroma-most, not-looked-at}
+use Rattle.best.specs.Best.{averageAt, withAverage, answered, noTable, lumaTable, bestOf}
+use Rattle.best.specs.Laws.{luma-most, chroma-most, no-chroma, some-chroma, not-looked-at}
 use Rattle.best.proofs.best_of.Statement.{statement}
 use Rattle.best.proofs.best_of.Tie as tie
-
--- of two chroma tables the definition takes the one that the code makes
-with-none : (task : Task) (given : Record) (lumas chromas : List ℕ) (average : ℤ) → isNegative given ≡ true → answered task given lumas noTable average ≡ answered task given lumas (cond (isNegative given) noTable chromas) average
-with-none task given lumas chromas average e = simp e
-
-with-chroma : (task : Task) (given : Record) (lumas chromas : List ℕ) (average : ℤ) → isNegative given ≡ false → answered task given lumas chromas average ≡ answered task given lumas (cond (isNegative given) noTable chromas) average
-with-chroma task given lumas chromas average e = simp e
 
 bad : (c : tie.Then1) → isBad (c .before .before .before .before .before .before .before .before .before .args .given) ≡ true
 bad c = sym (c .before .is-bad .ensures) ∙ c .if1 .taken
@@ -51,9 +41,10 @@ answer-requires c κs = (c .before .before .before .before .before .before .befo
 returns : tie.Need-returns
 unfolding bestOf
 returns c =
-    let yes : isNegative (c .before .before .before .before .before .before .before .before .before .before .before .before .before .before .before .args .given) ≡ true = sym (c .before .before .before .before .is-negative .ensures) ∙ c .before .before .before .if2 .taken in
+    let s = c .before .before .before .before .before .before .before .before .before .before .before .before .before .before .before .args in
+    let yes : isNegative (s .given) ≡ true = sym (c .before .before .before .before .is-negative .ensures) ∙ c .before .before .before .if2 .taken in
     rw (average-is (c .before .before .before .before .before .before .before .before), c .before .before .before .before .before .luma-table .ensures) at (c .answer .ensures)
-    ∙ with-none (c .before .before .before .before .before .before .before .before .before .before .before .before .before .before .before .args .task) (c .before .before .before .before .before .before .before .before .before .before .before .before .before .before .before .args .given) _ _ _ yes
+    ∙ ap (λ (t : List ℕ). answered (s .task) (s .given) (lumaTable (s .task) (s .given) (s .luma .now) (s .reference-luma .now)) t (averageAt (s .task) (s .given) (s .luma .now))) (no-chroma (s .task) (s .given) (s .u .now) (s .v .now) (s .reference-u .now) (s .reference-v .now) yes)
 
 chroma-table-requires : tie.Need-chroma-table-requires
 chroma-table-requires c κs = (c .before .before .before .before .before .before .before .before .before .before .before .before .pre, bad (c .before .before .before))
@@ -75,9 +66,10 @@ answer-requires-2 c κs = (c .before .before .before .before .before .before .be
 returns-2 : tie.Need-returns-2
 unfolding bestOf
 returns-2 c =
-    let no : isNegative (c .before .before .before .before .before .before .before .before .before .before .before .before .before .before .before .before .args .given) ≡ false = sym (c .before .before .before .before .before .is-negative .ensures) ∙ c .before .before .before .before .if2 .left in
+    let s = c .before .before .before .before .before .before .before .before .before .before .before .before .before .before .before .before .args in
+    let no : isNegative (s .given) ≡ false = sym (c .before .before .before .before .before .is-negative .ensures) ∙ c .before .before .before .before .if2 .left in
     rw (average-is (c .before .before .before .before .before .before .before .before .before), c .before .before .before .before .before .before .luma-table .ensures, c .before .before .before .chroma-table .ensures) at (c .answer2 .ensures)
-    ∙ with-chroma (c .before .before .before .before .before .before .before .before .before .before .before .before .before .before .before .before .args .task) (c .before .before .before .before .before .before .before .before .before .before .before .before .before .before .before .before .args .given) _ _ _ no
+    ∙ ap (λ (t : List ℕ). answered (s .task) (s .given) (lumaTable (s .task) (s .given) (s .luma .now) (s .reference-luma .now)) t (averageAt (s .task) (s .given) (s .luma .now))) (some-chroma (s .task) (s .given) (s .u .now) (s .v .now) (s .reference-u .now) (s .reference-v .now) no)
 
 answer-requires-3 : tie.Need-answer-requires-3
 answer-requires-3 c κs = (c .before .before .before .before .before .before .before .before .before .before .before .pre, (none-small, none-small))

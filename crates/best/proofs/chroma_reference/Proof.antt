@@ -1,7 +1,9 @@
 -- A struct's fields are read back as they were stored. Assumes nothing.
+use mathlib.Core.Path.{refl}
 use mir.Facts.{toZ-ofZ}
 use mir.Syntax.{w32}
 use mir.Val.{SFits}
+use Rattle.best.specs.Laws.{alike-references}
 use Rattle.best.proofs.chroma_reference.Statement.{statement}
 use Rattle.best.proofs.chroma_reference.Tie as tie
 
@@ -13,7 +15,7 @@ returns c =
     let x : SFits w32 (c .before .before .before .before .before .args .given .cpos .first) = record { sfits = at .0 .1 } in
     let y : SFits w32 (c .before .before .before .before .before .args .given .cpos .second) = record { sfits = at .1 .0 .1 } in
     let shift : SFits w32 (c .before .before .before .before .before .args .task .shift) = record { sfits = asked .1 .1 .0 .1 } in
-    simp toZ-ofZ
+    alike-references refl (toZ-ofZ pitch) (toZ-ofZ x) (toZ-ofZ y) (toZ-ofZ shift)
 
 pub chroma-reference-spec : {M : Type 1} → statement M
 chroma-reference-spec = tie.close (tie.spec returns)

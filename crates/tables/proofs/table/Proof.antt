@@ -1,18 +1,17 @@
 -- The invariant is an equation: the table so far is the definition's, after as many rows and candidates. Assumes nothing.
-use mathlib.Core.Path.{_≡_, sym, ap, _∙_}
+use mathlib.Core.Path.{_≡_, sym, _∙_}
 use mathlib.Core.Bool.{Bool}
 use mathlib.Core.List.{List}
 use Prim.Native.Nat.{ℕ, _+_, _-_, _*_, _≤_, _<_}
 use native.Mathlib.Omega.{arith}
 use lib.IntN.{ℤ}
-use lib.ListN.{set, replicate}
 use Rattle.whole.specs.Interval.{within-more, is-within, read-within}
 use Rattle.distance.specs.Distance.{blockOf}
 use Rattle.choosing.specs.declared.Choice.{Choice}
 use Rattle.choosing.specs.Choosing.{columnsOf, rowsOf, slotOf}
 use Rattle.tables.specs.declared.Reference.{Reference}
 use Rattle.tables.specs.Tables.{vectorCost, withRow, withRows, withPredictor}
-use Rattle.tables.specs.Laws.{Inside, inside, row-none, row-next, rows-none, rows-next, all-rows}
+use Rattle.tables.specs.Laws.{Inside, inside, row-none, row-next, predictor-first, rows-next, all-rows}
 use mir.Syntax.{w32}
 use Rattle.tables.proofs.table.Statement.{statement}
 use Rattle.tables.proofs.table.Tie as tie
@@ -47,7 +46,8 @@ loop-holds : tie.Need-loop-holds Inv-loop2 μ-loop2 Inv-loop μ-loop
 loop-holds c =
     let r = c .before .before .before .before .before .before .before .pre .1 .ranged in
     let e = rw (is-within w32 (r .x) tt tt .same, is-within w32 (r .y) tt tt .same) at (c .vector-cost .ensures) in
-    (omega arith, ap (λ (n : ℕ). set (replicate 50 0) 0 n) e ∙ sym (rows-none _ _ _))
+    let s = c .before .before .before .before .before .before .before .args in
+    (omega arith, predictor-first (s .choice) (costs (s .measure) (s .w) (s .h) (s .block .now) (s .samples .now) (s .reference)) e)
 
 loop2-holds : tie.Need-loop2-holds Inv-loop2 μ-loop2 Inv-loop μ-loop
 loop2-holds c = (omega arith, c .before .loop .inv .1 ∙ sym (row-none _ _ _ _))
