@@ -24,6 +24,8 @@ void block_cost_tests(void);
 void packed_score_tests(void);
 void numbers_tests(void);
 void plan_refusals_tests(void);
+void evaluate_refusals_tests(void);
+void evaluate_runs_tests(void);
 void finish_refusals_tests(void);
 
 #endif

@@ -40,6 +40,8 @@ int main(void) {
     packed_score_tests();
     numbers_tests();
     plan_refusals_tests();
+    evaluate_refusals_tests();
+    evaluate_runs_tests();
     finish_refusals_tests();
     printf("%d passed, %d failed\n", passed, failed);
     return failed != 0;
