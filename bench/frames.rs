@@ -11,8 +11,8 @@ use crate::{clock, name, noise, step};
 const WHOLE: (i32, i32) = (1920, 1080);
 const QUARTER: (i32, i32) = (960, 540);
 const SIZES: [(i32, i32); 3] = [(8, 8), (16, 8), (16, 16)];
-const RADII: [i32; 2] = [1, 3];
-const ROUNDS: usize = 7;
+/// Each radius with its rounds: a small window's times are short, and need more of them.
+const RADII: [(i32, usize); 2] = [(1, 15), (3, 7)];
 const PEL: i32 = 2;
 const SHIFT: i32 = 1;
 const PNEW: i32 = 30;
@@ -23,14 +23,14 @@ const BAD: i32 = 1;
 
 pub(crate) fn print() {
     let (whole, quarter) = (Frame::new(WHOLE), Frame::new(QUARTER));
-    println!("times as fast as the Rust's evaluation of a frame of {}x{}, best of {ROUNDS} rounds;", WHOLE.0, WHOLE.1);
+    println!("times as fast as the Rust's evaluation of a frame of {}x{}, best of 7 rounds or more;", WHOLE.0, WHOLE.1);
     println!("then how much longer that frame takes than one of {}x{}, in the port and in the Rust", QUARTER.0, QUARTER.1);
     for satd in [false, true] {
-        for radius in RADII {
+        for (radius, rounds) in RADII {
             for block in SIZES {
                 let jobs = [&whole, &quarter].map(|frame| Job::new(frame, satd, radius, block));
                 jobs.each_ref().map(Job::compare);
-                let [[port, rust], [port_quarter, rust_quarter]] = least_times(&jobs);
+                let [[port, rust], [port_quarter, rust_quarter]] = least_times(&jobs, rounds);
                 let growth = (port / port_quarter, rust / rust_quarter);
                 let (width, height) = block;
                 print!("{} radius {radius} {width:2}x{height:<2} {:6.1}", name(satd), rust / port);
@@ -41,9 +41,9 @@ pub(crate) fn print() {
 }
 
 /// For each job the port's least time and the Rust's, taken in turns.
-fn least_times(jobs: &[Job; 2]) -> [[f64; 2]; 2] {
+fn least_times(jobs: &[Job; 2], rounds: usize) -> [[f64; 2]; 2] {
     let mut least = [[f64::MAX; 2]; 2];
-    for _ in 0..ROUNDS {
+    for _ in 0..rounds {
         for (job, [port, rust]) in jobs.iter().zip(&mut least) {
             *port = port.min(clock::time(|| drop(black_box(job.port()))));
             *rust = rust.min(clock::time(|| drop(black_box(job.rust()))));
