@@ -27,5 +27,6 @@ void plan_refusals_tests(void);
 void evaluate_refusals_tests(void);
 void evaluate_runs_tests(void);
 void finish_refusals_tests(void);
+void frame_pair_tests(void);
 
 #endif

@@ -43,6 +43,7 @@ int main(void) {
     evaluate_refusals_tests();
     evaluate_runs_tests();
     finish_refusals_tests();
+    frame_pair_tests();
     printf("%d passed, %d failed\n", passed, failed);
     return failed != 0;
 }

@@ -1,0 +1,119 @@
+/* The pass on a small frame pair: a texture that moves by (2,2), predictors that say (0,0). Every block that can see it there finds it; the first
+ * block inside behind a moved one looks for the samples of another place, and doesn't. Refused input leaves all that is lent. */
+#include "../../include/hirupango.h"
+#include "expect.h"
+
+enum { SIDE = 48, HALF = SIDE / 2, GRID = 6, BLOCKS = GRID * GRID, INSIDE = GRID - 1, WORDS = 12, MOTION = 2 };
+
+static uint8_t luma[SIDE * SIDE], u[HALF * HALF], v[HALF * HALF];
+static uint8_t next_luma[SIDE * SIDE], next_u[HALF * HALF], next_v[HALF * HALF];
+static int32_t order[2 * BLOCKS], vectors[3 * BLOCKS], records[WORDS * BLOCKS], indices[BLOCKS], bests[4 * BLOCKS],
+    output[2 * BLOCKS];
+
+static uint8_t texture(int x, int y, int plane) {
+    uint32_t h = (uint32_t)(x * 73 + y * 151 + plane * 31) * 2654435761u;
+    return (uint8_t)((h ^ h >> 15) >> 11);
+}
+
+static void fill(uint8_t *plane, int side, int which, int motion) {
+    for (int y = 0; y < side; y++)
+        for (int x = 0; x < side; x++) plane[y * side + x] = texture(x - motion, y - motion, which);
+}
+
+/* The blocks that stay inside their limits first, row by row, and then those of the last row and column. */
+static void set_order(void) {
+    int n = 0;
+    for (int rim = 0; rim < 2; rim++)
+        for (int y = 0; y < GRID; y++)
+            for (int x = 0; x < GRID; x++)
+                if ((x == INSIDE || y == INSIDE) == rim) {
+                    order[2 * n] = x;
+                    order[2 * n++ + 1] = y;
+                }
+}
+
+static struct hirupango_settings settings(void) {
+    struct hirupango_place full = {0, SIDE, SIDE, SIDE, 1}, half = {0, HALF, HALF, HALF, 1};
+    struct hirupango_settings s = {{true, 3}, {0, 100}, {false, false, 1}, {8, 8}, {GRID, GRID}, {8, 8}, {1, 1}, {full, half, half}};
+    return s;
+}
+
+static void start(void) {
+    fill(luma, SIDE, 0, 0);
+    fill(u, HALF, 1, 0);
+    fill(v, HALF, 2, 0);
+    fill(next_luma, SIDE, 0, MOTION);
+    fill(next_u, HALF, 1, MOTION / 2);
+    fill(next_v, HALF, 2, MOTION / 2);
+    set_order();
+    for (int i = 0; i < BLOCKS; i++) {
+        vectors[3 * i] = vectors[3 * i + 1] = 0;
+        vectors[3 * i + 2] = 1000;
+    }
+    mark(output, 2 * BLOCKS);
+}
+
+static uint32_t plan(struct hirupango_settings s) {
+    return hirupango_plan(s, order, 2 * BLOCKS, vectors, 3 * BLOCKS, luma, sizeof luma, u, sizeof u, v, sizeof v, records,
+                          WORDS * BLOCKS, indices, BLOCKS);
+}
+
+static uint32_t evaluate(struct hirupango_settings s) {
+    struct hirupango_request q = {false, s.block, s.shift, s.search.search_param, 0, 1, {s.planes.luma, s.planes.u, s.planes.v},
+                                  {s.planes.luma, s.planes.u, s.planes.v}};
+    return hirupango_evaluate(q, records, WORDS * BLOCKS, luma, sizeof luma, u, sizeof u, v, sizeof v, next_luma, sizeof next_luma,
+                              next_u, sizeof next_u, next_v, sizeof next_v, bests, 4 * BLOCKS);
+}
+
+static uint32_t finish(void) {
+    return hirupango_finish(GRID, GRID, indices, BLOCKS, bests, 4 * BLOCKS, 67, true, vectors, 3 * BLOCKS, output, 2 * BLOCKS);
+}
+
+static void the_pass(void) {
+    struct hirupango_settings s = settings();
+    start();
+    expect(plan(s) == 0, "frame pair: plan", 0, 0);
+    expect(evaluate(s) == 0, "frame pair: evaluate", 0, 0);
+    expect(finish() == 0, "frame pair: finish", 0, 0);
+    for (int y = 0; y < INSIDE; y++)
+        for (int x = 0; x < INSIDE; x++) {
+            const int32_t *vector = vectors + 3 * (y * GRID + x);
+            expect(vector[0] == MOTION && vector[1] == MOTION && vector[2] == 0, "frame pair: the motion is found", x, y);
+            expect(output[2 * (y * GRID + x)] == MOTION * 65536 + MOTION, "frame pair: its output word", x, y);
+        }
+}
+
+/* A block of the last column, which is moved, and then one inside: that one reads the first one's own place. */
+static void stale(void) {
+    struct hirupango_settings s = settings();
+    start();
+    order[0] = INSIDE;
+    order[1] = 0;
+    order[2] = order[3] = 1;
+    expect(plan(s) == 0, "frame pair: stale plan", 0, 0);
+    expect(records[WORDS] == 8 * INSIDE, "frame pair: full is the moved block's origin", records[WORDS], 8 * INSIDE);
+    expect(records[WORDS + 4] == 8 * SIDE + 8, "frame pair: the average's origin is its own", records[WORDS + 4], 8 * SIDE + 8);
+}
+
+/* Each step refused: its number, and nothing written. */
+static void refused(void) {
+    struct hirupango_settings s = settings(), wide = s;
+    wide.search.search_param = 4;
+    start();
+    mark(records, WORDS * BLOCKS);
+    mark(indices, BLOCKS);
+    expect(plan(wide) == 1 && marked(records, 0, WORDS * BLOCKS) && marked(indices, 0, BLOCKS), "frame pair: plan refused", 0, 0);
+    expect(plan(s) == 0, "frame pair: plan again", 0, 0);
+    mark(bests, 4 * BLOCKS);
+    expect(evaluate(wide) == 1 && marked(bests, 0, 4 * BLOCKS), "frame pair: evaluate refused", 0, 0);
+    expect(evaluate(s) == 0, "frame pair: evaluate again", 0, 0);
+    bests[4 * (BLOCKS - 1)] = 32768;
+    mark(vectors, 3 * BLOCKS);
+    expect(finish() == 7 && marked(vectors, 0, 3 * BLOCKS) && marked(output, 0, 2 * BLOCKS), "frame pair: finish refused", 0, 0);
+}
+
+void frame_pair_tests(void) {
+    the_pass();
+    stale();
+    refused();
+}
