@@ -1,5 +1,5 @@
 /* Evaluating's refusals, each way into one: the case one step outside with its number, and its neighbour inside with 0. */
-#include "../../include/hirupango.h"
+#include "cases.h"
 #include "expect.h"
 #include "unread.h"
 
@@ -11,15 +11,6 @@ static int32_t records[WORDS * MOST], before[WORDS * MOST], bests[NUMBERS * MOST
 static size_t records_len, lengths[PLANES], bests_len;
 
 /* ---- making a case */
-static struct hirupango_sides sides(int32_t x, int32_t y) {
-    struct hirupango_sides made = {x, y};
-    return made;
-}
-
-static int32_t pair(int32_t first, int32_t second) {
-    return (int32_t)(((uint32_t)first & 65535) | (uint32_t)second << 16);
-}
-
 /* The six planes: the source's luma, u and v, then the reference's. */
 static struct hirupango_place *plane(int at) {
     struct hirupango_place *planes[PLANES] = {&q.source.luma,    &q.source.u,    &q.source.v,
@@ -27,19 +18,14 @@ static struct hirupango_place *plane(int at) {
     return planes[at];
 }
 
-/* Lengths that just hold the planes. */
 static void fit_lengths(void) {
-    for (int at = 0; at < PLANES; at++) {
-        struct hirupango_place place = *plane(at);
-        lengths[at] = place.base + (size_t)(place.height - 1) * (size_t)place.pitch + (size_t)place.width;
-    }
+    for (int at = 0; at < PLANES; at++) lengths[at] = held(*plane(at));
 }
 
 static void frame(int32_t width, int32_t height) {
     for (int at = 0; at < PLANES; at++) {
         int32_t w = at % 3 && q.shift.x > 0 ? width >> 1 : width, h = at % 3 && q.shift.y > 0 ? height >> 1 : height;
-        struct hirupango_place place = {0, w, w, h, 2};
-        *plane(at) = place;
+        *plane(at) = tight(w, h);
     }
     fit_lengths();
 }
@@ -129,13 +115,7 @@ static void asked(const char *what, uint32_t number) {
 /* The base with one change, and the number that it must be given. */
 #define TRY(number, change) (base(), (change), asked(#change, number))
 
-static const int32_t ENDS[] = {INT32_MIN, -1, INT32_MAX};
-
 /* ---- 1 */
-static int is_block(int32_t w, int32_t h) {
-    return (w == 8 && h == 8) || (w == 16 && (h == 8 || h == 16));
-}
-
 static void block_and_radius(void) {
     for (int32_t w = 0; w <= 33; w++)
         for (int32_t h = 0; h <= 33; h++) TRY(!is_block(w, h), q.block = sides(w, h));
@@ -151,10 +131,6 @@ static void block_and_radius(void) {
 }
 
 /* ---- 2 */
-static int is_pel(int32_t pel) {
-    return pel == 1 || pel == 2 || pel == 4;
-}
-
 static void pel_of_all(int32_t pel) {
     q.pel = pel;
     for (int at = 0; at < PLANES; at++) plane(at)->pel = pel;
@@ -168,10 +144,8 @@ static void pels_and_shifts(void) {
     }
     for (int i = 0; i < 3; i++) TRY(2, pel_of_all(ENDS[i]));
     for (int32_t x = -1; x <= 3; x++)
-        for (int32_t y = -1; y <= 3; y++) {
-            int served = (x == 0 && y == 0) || (x == 1 && y == 0) || (x == 1 && y == 1);
-            TRY(served ? 0 : 2, (q.shift = sides(x, y), frame(64, 64)));
-        }
+        for (int32_t y = -1; y <= 3; y++)
+            TRY(are_shifts(x, y) ? 0 : 2, (q.shift = sides(x, y), frame(64, 64)));
     for (int i = 0; i < 3; i++) {
         TRY(2, q.shift.x = ENDS[i]);
         TRY(2, q.shift.y = ENDS[i]);

@@ -1,5 +1,5 @@
 /* Two bests of evaluating that show its order of tests: the paper's luma column at pel 1, and a tie at the luma test. */
-#include "../../include/hirupango.h"
+#include "cases.h"
 #include "expect.h"
 
 enum { SIDE = 32, BYTES = SIDE * SIDE, WORDS = 12, AT = 8 };
@@ -16,10 +16,6 @@ static void clear(void) {
 
 static void put(uint8_t *plane, int x, int y, uint8_t sample) {
     plane[(AT + y) * SIDE + AT + x] = sample;
-}
-
-static int32_t pair(int32_t first, int32_t second) {
-    return (int32_t)(((uint32_t)first & 65535) | (uint32_t)second << 16);
 }
 
 struct search {
@@ -52,8 +48,8 @@ static void luma_column(void) {
     best("luma column, pel 2", s, 0, 0, 50);
 }
 
-/* The window is vector (0,0) alone, and the predictor lies one pixel to the right of it: luma 16, chroma 0, so least cost 16. The candidate's
- * chroma of 8 has a penalty that wraps far below 0. With luma 16 it is dropped before that; with luma 15 it is taken. */
+/* The window is vector (0,0) alone, and the predictor lies one pixel to the right of it: luma 16, chroma 0, so least cost 16. The
+ * candidate's chroma of 8 has a penalty that wraps far below 0. With luma 16 it is dropped before that; with luma 15 it is taken. */
 static void tie_at_luma(void) {
     struct search s = {2, 0, 1 << 28, 0, pair(2, 0), pair(0, 0), pair(0, 0)};
     clear();

@@ -1,5 +1,5 @@
 /* Finishing's refusals, each way into one: the case one step outside with its number, and its neighbour inside with 0. */
-#include "../../include/hirupango.h"
+#include "cases.h"
 #include "expect.h"
 
 enum { MOST = 4100, ENTRIES = 3, NUMBERS = 4 * ENTRIES + 4 };
@@ -59,8 +59,6 @@ static void asked(const char *what, uint32_t number) {
 
 /* The base with one change, and the number that it must be given. */
 #define TRY(number, change) (base(), (change), asked(#change, number))
-
-static const int32_t ENDS[] = {INT32_MIN, -1, INT32_MAX};
 
 /* ---- 1 and 2 */
 static void grids(void) {

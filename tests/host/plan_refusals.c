@@ -1,6 +1,6 @@
 /* Planning's refusals, each way into one: the case one step outside with its number, and its neighbour inside with 0. Then
  * the run of three bad blocks that the paper names. */
-#include "../../include/hirupango.h"
+#include "cases.h"
 #include "expect.h"
 #include "unread.h"
 
@@ -12,21 +12,6 @@ static int32_t records[WORDS * MOST], indices[MOST];
 static size_t order_len, vectors_len, luma_len, u_len, v_len, records_len, indices_len;
 
 /* ---- making a case */
-static struct hirupango_sides sides(int32_t x, int32_t y) {
-    struct hirupango_sides made = {x, y};
-    return made;
-}
-
-static struct hirupango_place tight(int32_t width, int32_t height) {
-    struct hirupango_place place = {0, width, width, height, 2};
-    return place;
-}
-
-/* Lengths that just hold the planes. */
-static size_t held(struct hirupango_place place) {
-    return place.base + (size_t)(place.height - 1) * (size_t)place.pitch + (size_t)place.width;
-}
-
 static void fit_lengths(void) {
     luma_len = held(s.planes.luma);
     u_len = held(s.planes.u);
@@ -104,13 +89,7 @@ static void asked(const char *what, uint32_t number) {
 /* The base with one change, and the number that it must be given. */
 #define TRY(number, change) (base(), (change), asked(#change, number))
 
-static const int32_t ENDS[] = {INT32_MIN, -1, INT32_MAX};
-
 /* ---- 1 */
-static int is_block(int32_t w, int32_t h) {
-    return (w == 8 && h == 8) || (w == 16 && (h == 8 || h == 16));
-}
-
 static void search_and_block(void) {
     TRY(0, s.search.exhaustive = true);
     TRY(1, s.search.exhaustive = false);
@@ -188,10 +167,6 @@ static void steps_and_frame(void) {
     }
 }
 
-static int is_pel(int32_t pel) {
-    return pel == 1 || pel == 2 || pel == 4;
-}
-
 static void pels_and_shifts(void) {
     for (int32_t pel = -1; pel <= 9; pel++) {
         TRY(is_pel(pel) ? 0 : 2, s.level.pel = pel);
@@ -201,10 +176,8 @@ static void pels_and_shifts(void) {
     }
     for (int i = 0; i < 3; i++) TRY(2, s.level.pel = ENDS[i]);
     for (int32_t x = -1; x <= 3; x++)
-        for (int32_t y = -1; y <= 3; y++) {
-            int served = (x == 0 && y == 0) || (x == 1 && y == 0) || (x == 1 && y == 1);
-            TRY(served ? 0 : 2, (s.shift = sides(x, y), frame(64, 64)));
-        }
+        for (int32_t y = -1; y <= 3; y++)
+            TRY(are_shifts(x, y) ? 0 : 2, (s.shift = sides(x, y), frame(64, 64)));
     for (int i = 0; i < 3; i++) {
         TRY(2, s.shift.x = ENDS[i]);
         TRY(2, s.shift.y = ENDS[i]);
