@@ -2,3 +2,4 @@ pub mod Pass
 pub mod Lists
 pub mod Evaluates
 pub mod Finishes
+pub mod ThreeCalls
