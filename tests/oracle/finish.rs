@@ -46,6 +46,11 @@ fn read_finish(numbers: &mut Numbers<'_>) -> Result<Work, Fault> {
 
 fn answer(case: &FinishCase) -> Vec<i64> {
     let (vectors, output) = inside::finish(case);
+    in_one_row(&vectors, &output)
+}
+
+/// The words are signed here, as the replays of the port print them.
+pub(crate) fn in_one_row(vectors: &[(i16, i16, i32)], output: &[u32]) -> Vec<i64> {
     let vectors = vectors
         .iter()
         .flat_map(|&(x, y, sad)| [x.into(), y.into(), sad.into()]);

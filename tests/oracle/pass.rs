@@ -5,7 +5,7 @@ use std::collections::HashSet;
 use crate::analyse::field::recalc::inside::{self, Planned};
 use crate::evaluate::{EvaluateCase, Planes};
 use crate::evaluate_cases;
-use crate::finish::FinishCase;
+use crate::finish::{self, FinishCase};
 use crate::kinds::Kind;
 use crate::lines::{Fault, Numbers, Work};
 use crate::plan::{self, PlanCase};
@@ -96,12 +96,7 @@ impl PassCase {
                 *vector = self.plan.vectors[at];
             }
         }
-        let vectors = vectors
-            .iter()
-            .flat_map(|&(x, y, sad)| [x.into(), y.into(), sad.into()]);
-        vectors
-            .chain(output.iter().map(|&word| i64::from(word as i32)))
-            .collect()
+        finish::in_one_row(&vectors, &output)
     }
 }
 
