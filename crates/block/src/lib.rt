@@ -264,7 +264,7 @@ fn filled(planes: Planes, negative: bool, spot: Spot, source: Source) -> Source
     let luma = planes.luma;
     let x = spot.x;
     let y = spot.y;
-    let written = slots::write_luma(source, negative, offset_at(luma, x, y));
+    let written = slots::after_luma(source, negative, offset_at(luma, x, y));
     if negative {
         return written;
     }
@@ -272,7 +272,7 @@ fn filled(planes: Planes, negative: bool, spot: Spot, source: Source) -> Source
     let v = planes.v;
     let cx = spot.cx;
     let cy = spot.cy;
-    slots::write_chroma(written, offset_at(u, cx, cy), offset_at(v, cx, cy))
+    slots::after_chroma(written, offset_at(u, cx, cy), offset_at(v, cx, cy))
 }
 
 fn settled(planes: Planes, negative: bool, moves: bool, spot: Spot, slots: Slots) -> Slots
@@ -436,7 +436,7 @@ fn luma_step(luma: Place, block: Block, shape: Shape, lambda: i32, slots: Slots)
     let y = down.origin;
     let at = offset_at(luma, x, y);
     let before = slots::active(slots);
-    let wrote = slots::write_luma(before, negative, at);
+    let wrote = slots::after_luma(before, negative, at);
     let after = slots::with_active(slots, wrote);
     let made = quiet_record(block, negative, lambda, Offset::At(at));
     Step {

@@ -133,15 +133,15 @@ fn is_wide(request: Request, records: &[i32]) -> bool
 fn refusal(
     request: Request,
     records: &[i32],
-    luma: usize,
-    u: usize,
-    v: usize,
-    reference_luma: usize,
-    reference_u: usize,
-    reference_v: usize,
+    luma: &[u8],
+    u: &[u8],
+    v: &[u8],
+    reference_luma: &[u8],
+    reference_u: &[u8],
+    reference_v: &[u8],
     bests: usize,
 ) -> u32
-    ensures { λ r. ⌜ r ≡ refusalOf request (now (records .entry)) luma u v «reference_luma» «reference_u» «reference_v» bests ⌝ }
+    ensures { λ r. ⌜ r ≡ refusalOf request (now (records .entry)) (length (now (luma .entry))) (length (now (u .entry))) (length (now (v .entry))) (length (now («reference_luma» .entry))) (length (now («reference_u» .entry))) (length (now («reference_v» .entry))) bests ⌝ }
 {
     let source = request.source;
     let reference = request.reference;
@@ -232,12 +232,12 @@ pub fn evaluate(
     let number = refusal(
         request,
         records,
-        luma.len(),
-        u.len(),
-        v.len(),
-        reference_luma.len(),
-        reference_u.len(),
-        reference_v.len(),
+        luma,
+        u,
+        v,
+        reference_luma,
+        reference_u,
+        reference_v,
         bests.len(),
     );
     if number != 0 {

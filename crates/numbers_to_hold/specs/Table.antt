@@ -24,20 +24,24 @@ use Rattle.plane.specs.Places.{subpelOf}
 use Rattle.axis.specs.declared.Axis.{Axis}
 use Rattle.axis.specs.Axis.{excessOf, placeOf, windowOf}
 use Rattle.block.specs.declared.Weights.{Weights}
-use Rattle.block.specs.Shapes.{lambdaOf}
-
--- ---- a row: what comes out, and what the paper says
-pub record Row : Type 0 where
-  pub comes : List ℤ
-  pub says : List ℤ
-
-abbrev is : List ℤ → List ℤ → Row
-is comes says = record { comes = comes; says = says }
-
--- every row of a table holds
-abbrev pub Every : List Row → Type 0
-Every [] = Unit
-Every (r ∷ rest) = (r .comes ≡ r .says) × Every rest
+use Rattle.block.specs.Shapes.{lambdaOf, negativeOf, axisOf, shapeOf}
+use Rattle.block.specs.Steps.{quietRecord, quietStep, stepWith, stepOf}
+use Rattle.whole.specs.Tests.{allUpto}
+use Rattle.limits.specs.Refusals.{anyUpto}
+use Rattle.passes.specs.Fold.{blockAt, turnAt, slotsAt, allFit}
+use Rattle.planning.specs.Refusals as planning
+use Rattle.records.specs.Unpacking.{recordOf}
+use Rattle.window.specs.Windows.{isWide}
+use Rattle.record_slice.specs.RecordSlice.{wordsFrom, recordAt}
+use Rattle.evaluation.specs.Refusals as evaluation
+use Rattle.finishing.specs.Finish.{finishAnswer}
+use Rattle.serpentine.specs.Answers.{positionRefusal, blockRefusal, orderRefusal}
+use Rattle.little_endian.specs.Bytes.{wordAt}
+use Rattle.plan_file.specs.PlanFile.{trailerOf, trailerHolds, isPlanFile, planOf}
+use Rattle.hirupango.specs.BlockCost.{costNumber}
+use Rattle.hirupango.specs.Slots.{slotsAnswer}
+use Rattle.numbers_to_hold.specs.Rows.{Row, is, Every}
+use Rattle.numbers_to_hold.specs.Refusals.{refusals}
 
 -- ---- answers as numbers: 01's number, and the values where it is 0
 abbrev pairAnswer : PackedPair → List ℤ
@@ -133,8 +137,8 @@ numbersToHold =
     ∷ is (subpelOf small (negsuc 0) (pos 0) ∷ []) (pos 31 ∷ [])
     ∷ []
 
--- ---- the theorem
-pub all-hold : Every numbersToHold
-unfolding numbersToHold packedPair packedRecord recordFits recordWords numbers walk each row sum sumZ hadamardAt tileSum diagonalAnswer diagonalOf rootOf scoreAnswer packedScore excessOf placeOf windowOf subpelOf
+-- ---- the theorem, of these and of the refusals that the paper states as numbers
+pub all-hold : Every (numbersToHold ++ refusals)
+unfolding numbersToHold refusals packedPair packedRecord recordFits recordWords numbers walk each row sum sumZ hadamardAt tileSum diagonalAnswer diagonalOf rootOf scoreAnswer packedScore excessOf placeOf windowOf subpelOf planning.refusalOf planning.holds1 planning.holds2 planning.holds3 planning.axisHolds planning.chromaHolds planning.planesHold planning.vectorFits planning.entryHolds allUpto allFit turnAt blockAt slotsAt stepOf stepWith quietStep quietRecord negativeOf axisOf shapeOf evaluation.refusalOf evaluation.holds1 evaluation.holds2 evaluation.referenceHolds evaluation.referencesHold anyUpto isWide recordAt recordOf wordsFrom finishAnswer positionRefusal blockRefusal orderRefusal planOf isPlanFile trailerHolds trailerOf wordAt costNumber slotsAnswer
 all-hold =
-    (refl, (refl, (refl, (refl, (refl, (refl, (refl, (refl, (refl, (refl, (refl, (refl, (refl, (refl, (refl, (refl, (refl, (refl, (refl, (refl, (refl, (refl, (refl, (refl, tt))))))))))))))))))))))))
+    (refl, (refl, (refl, (refl, (refl, (refl, (refl, (refl, (refl, (refl, (refl, (refl, (refl, (refl, (refl, (refl, (refl, (refl, (refl, (refl, (refl, (refl, (refl, (refl, (refl, (refl, (refl, (refl, (refl, (refl, (refl, (refl, (refl, (refl, (refl, (refl, (refl, (refl, (refl, (refl, (refl, (refl, (refl, (refl, (refl, (refl, (refl, (refl, (refl, (refl, (refl, (refl, (refl, (refl, (refl, (refl, (refl, (refl, (refl, (refl, (refl, (refl, (refl, (refl, (refl, (refl, (refl, (refl, (refl, (refl, (refl, tt)))))))))))))))))))))))))))))))))))))))))))))))))))))))))))))))))))))))

@@ -157,15 +157,15 @@ fn vectors_fit(vectors: &[i32], n: usize) -> bool
     all
 }
 
-pub fn holds_3(planes: Planes, luma: usize, u: usize, v: usize) -> bool
-    ensures { λ r. ⌜ r ≡ holds3 planes luma u v ⌝ }
+pub fn holds_3(planes: Planes, luma: &[u8], u: &[u8], v: &[u8]) -> bool
+    ensures { λ r. ⌜ r ≡ holds3 planes (length (now (luma .entry))) (length (now (u .entry))) (length (now (v .entry))) ⌝ }
 {
     let place_luma = planes.luma;
     let place_u = planes.u;
     let place_v = planes.v;
-    plane::keeps_length(place_luma, luma)
-        & plane::keeps_length(place_u, u)
-        & plane::keeps_length(place_v, v)
+    plane_view::length_kept(luma, place_luma)
+        & plane_view::length_kept(u, place_u)
+        & plane_view::length_kept(v, place_v)
 }
 
 fn entry_holds(grid: Sides, order: &[i32], i: usize) -> bool
@@ -204,13 +204,13 @@ fn refusal(
     s: Settings,
     order: &[i32],
     vectors: &[i32],
-    luma: usize,
-    u: usize,
-    v: usize,
+    luma: &[u8],
+    u: &[u8],
+    v: &[u8],
     words: usize,
     indices: usize,
 ) -> u32
-    ensures { λ r. ⌜ r ≡ refusalOf s (now (order .entry)) (now (vectors .entry)) luma u v words indices ⌝ }
+    ensures { λ r. ⌜ r ≡ refusalOf s (now (order .entry)) (now (vectors .entry)) (length (now (luma .entry))) (length (now (u .entry))) (length (now (v .entry))) words indices ⌝ }
 {
     let grid = s.grid;
     let planes = s.planes;
@@ -278,16 +278,7 @@ pub fn plan(
     ensures { λ _. ⌜ now (records .exit) ≡ planRecords s (now (order .entry)) (now (vectors .entry)) (length (now (luma .entry))) (length (now (u .entry))) (length (now (v .entry))) (now (records .entry)) (length (now (indices .entry))) ⌝ }
     ensures { λ _. ⌜ now (indices .exit) ≡ planIndices s (now (order .entry)) (now (vectors .entry)) (length (now (luma .entry))) (length (now (u .entry))) (length (now (v .entry))) (length (now (records .entry))) (now (indices .entry)) ⌝ }
 {
-    let number = refusal(
-        s,
-        order,
-        vectors,
-        luma.len(),
-        u.len(),
-        v.len(),
-        records.len(),
-        indices.len(),
-    );
+    let number = refusal(s, order, vectors, luma, u, v, records.len(), indices.len());
     if number != 0 {
         return Planned::Refused(number);
     }

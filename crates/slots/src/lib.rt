@@ -39,9 +39,10 @@ pub fn at_start() -> Slots
     }
 }
 
+// ---- what a write leaves
 // A negative block's samples lie over those of the full block, which stay; a plain block's own take
 // their place.
-pub fn write_luma(source: Source, negative: bool, offset: i32) -> Source
+fn luma_written(source: Source, negative: bool, offset: i32) -> Source
     ensures { λ r. ⌜ r ≡ lumaWritten negative offset source ⌝ }
 {
     let full = source.full;
@@ -63,7 +64,7 @@ pub fn write_luma(source: Source, negative: bool, offset: i32) -> Source
     }
 }
 
-pub fn write_chroma(source: Source, u: i32, v: i32) -> Source
+fn chroma_written(source: Source, u: i32, v: i32) -> Source
     ensures { λ r. ⌜ r ≡ chromaWritten u v source ⌝ }
 {
     let full = source.full;
@@ -76,6 +77,40 @@ pub fn write_chroma(source: Source, u: i32, v: i32) -> Source
     }
 }
 
+// ---- the writes: a source is changed where it stands
+pub fn write_luma(source: &mut Source, negative: bool, offset: i32)
+    ensures { λ _. ⌜ now (source .exit) ≡ lumaWritten negative offset (now (source .entry)) ⌝ }
+{
+    let before = *source;
+    *source = luma_written(before, negative, offset);
+}
+
+pub fn write_chroma(source: &mut Source, u: i32, v: i32)
+    ensures { λ _. ⌜ now (source .exit) ≡ chromaWritten u v (now (source .entry)) ⌝ }
+{
+    let before = *source;
+    *source = chroma_written(before, u, v);
+}
+
+// ---- the same from a value to a value: a source of their own is lent to the write. Who calls these
+// lends nothing.
+pub fn after_luma(source: Source, negative: bool, offset: i32) -> Source
+    ensures { λ r. ⌜ r ≡ lumaWritten negative offset source ⌝ }
+{
+    let mut own = source;
+    write_luma(&mut own, negative, offset);
+    own
+}
+
+pub fn after_chroma(source: Source, u: i32, v: i32) -> Source
+    ensures { λ r. ⌜ r ≡ chromaWritten u v source ⌝ }
+{
+    let mut own = source;
+    write_chroma(&mut own, u, v);
+    own
+}
+
+// ---- which slot
 pub fn active(slots: Slots) -> Source
     ensures { λ r. ⌜ r ≡ activeOf slots ⌝ }
 {

@@ -40,7 +40,7 @@ fn vector_cost(
     let shift = reference.shift;
     let x = px + limits::shifted(vx, shift);
     let y = py + limits::shifted(vy, shift);
-    let at = plane::subpel(place, x, y);
+    let at = plane_view::offset_of(samples, place, x, y);
     plane::cost_at(measure, w, h, block, samples, at, pitch as usize)
 }
 

@@ -38,7 +38,7 @@ luma-is c =
 
 returns : tie.Need-returns
 unfolding filledWith
-returns c = simp (luma-is (c .before .before)) at (c .before .write-luma .ensures) ∙ simp (c .if1 .taken)
+returns c = simp (luma-is (c .before .before)) at (c .before .after-luma .ensures) ∙ simp (c .if1 .taken)
 
 offset-at-requires-2 : tie.Need-offset-at-requires-2
 offset-at-requires-2 c κs =
@@ -59,8 +59,8 @@ returns-2 c =
     let g = cy-fits (c .before .before .before .before .before .before .before .before .before .before) in
     let u = got w32 (c .before .before .offset-at2 .ok) (simp toZ-ofZ at (c .before .before .offset-at2 .ensures)) in
     let v = got w32 (c .before .offset-at3 .ok) (simp toZ-ofZ at (c .before .offset-at3 .ensures)) in
-    let w = simp (luma-is (c .before .before .before .before .before .before .before .before .before)) at (c .before .before .before .before .before .before .before .before .write-luma .ensures) in
-    simp (u, v, w) at (c .write-chroma .ensures) ∙ simp (c .before .before .before .before .before .before .before .if1 .left)
+    let w = simp (luma-is (c .before .before .before .before .before .before .before .before .before)) at (c .before .before .before .before .before .before .before .before .after-luma .ensures) in
+    simp (u, v, w) at (c .after-chroma .ensures) ∙ simp (c .before .before .before .before .before .before .before .if1 .left)
 
 pub filled-spec : {M : Type 1} → statement M
 filled-spec =

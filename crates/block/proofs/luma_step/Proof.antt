@@ -39,7 +39,7 @@ returns c =
     luma-stages (s .args .luma) (s .args .block) (s .args .shape) (s .args .lambda) (s .args .slots)
     (at-is (c .before .before .before .before))
     (c .before .before .before .active .ensures)
-    (c .before .before .write-luma .ensures)
+    (c .before .before .after-luma .ensures)
     (c .before .with-active .ensures)
     (c .quiet-record .ensures ∙ ap (λ (l : ℤ). quietRecord (s .args .block) (s .args .shape .negative) l (At (toZ w32 (ofZ w32 (c .before .before .before .before .offset-at .result))))) (toZ-ofZ (s .fits .lambda)))
 

@@ -11,23 +11,23 @@ use Rattle.evaluation.proofs.refusal.Statement.{statement}
 use Rattle.evaluation.proofs.refusal.Tie as tie
 
 -- ---- what each test left
-first : (c : tie.Else1) → holds1 (c .before .before .before .before .args .request) ≡ true
+first : (c : tie.Else1) → holds1 (c .before .before .before .before .before .before .before .before .before .before .args .request) ≡ true
 first c = sym (c .before .holds-1 .ensures) ∙ not-false _ (c .if1 .left)
 
-second : (c : tie.Else2) → holds2 (c .before .before .before .before .before .before .args .request) ≡ true
+second : (c : tie.Else2) → holds2 (c .before .before .before .before .before .before .before .before .before .before .before .before .args .request) ≡ true
 second c = sym (c .before .holds-2 .ensures) ∙ not-false _ (c .if2 .left)
 
-source : (c : tie.Else3) → holds3 (c .before .before .before .before .before .before .before .before .args .request .source) (c .before .before .before .before .before .before .before .before .args .luma) (c .before .before .before .before .before .before .before .before .args .u) (c .before .before .before .before .before .before .before .before .args .v) ≡ true
+source : (c : tie.Else3) → holds3 (c .before .before .before .before .before .before .before .before .before .before .before .before .before .before .args .request .source) (length (c .before .before .before .before .before .before .before .before .before .before .before .before .before .before .args .luma .now)) (length (c .before .before .before .before .before .before .before .before .before .before .before .before .before .before .args .u .now)) (length (c .before .before .before .before .before .before .before .before .before .before .before .before .before .before .args .v .now)) ≡ true
 source c = sym (c .before .holds-3 .ensures) ∙ not-false _ (c .if3 .left)
 
-reference : (c : tie.Else4) → holds3 (c .before .before .before .before .before .before .before .before .before .before .args .request .reference) (c .before .before .before .before .before .before .before .before .before .before .args .reference-luma) (c .before .before .before .before .before .before .before .before .before .before .args .reference-u) (c .before .before .before .before .before .before .before .before .before .before .args .reference-v) ≡ true
+reference : (c : tie.Else4) → holds3 (c .before .before .before .before .before .before .before .before .before .before .before .before .before .before .before .before .args .request .reference) (length (c .before .before .before .before .before .before .before .before .before .before .before .before .before .before .before .before .args .reference-luma .now)) (length (c .before .before .before .before .before .before .before .before .before .before .before .before .before .before .before .before .args .reference-u .now)) (length (c .before .before .before .before .before .before .before .before .before .before .before .before .before .before .before .before .args .reference-v .now)) ≡ true
 reference c = sym (c .before .holds-32 .ensures) ∙ not-false _ (c .if4 .left)
 
-room : (c : tie.Else5) → hasRoom (length (c .before .before .before .before .before .before .before .before .before .before .before .before .args .records .now)) (c .before .before .before .before .before .before .before .before .before .before .before .before .args .bests) ≡ true
+room : (c : tie.Else5) → hasRoom (length (c .before .before .before .before .before .before .before .before .before .before .before .before .before .before .before .before .before .before .args .records .now)) (c .before .before .before .before .before .before .before .before .before .before .before .before .before .before .before .before .before .before .args .bests) ≡ true
 room c = sym (c .before .has-room .ensures) ∙ not-false _ (c .if5 .left)
 
 is-wide-requires : tie.Need-is-wide-requires
-is-wide-requires c κs = searched (c .before .before .before .before .before .before .before .before .before .before .before .before .args .request) (first (c .before .before .before .before .before .before .before .before))
+is-wide-requires c κs = searched (c .before .before .before .before .before .before .before .before .before .before .before .before .before .before .before .before .before .before .args .request) (first (c .before .before .before .before .before .before .before .before))
 
 -- ---- each answer
 returns : tie.Need-returns

@@ -13,53 +13,53 @@ use Rattle.planning.specs.Accepted.{settings, count-small, listed-is, he
 use Rattle.planning.proofs.refusal.Statement.{statement}
 use Rattle.planning.proofs.refusal.Tie as tie
 
-n-is : (c : tie.After-count-of) → c .count-of .result ≡ countOf (c .before .before .before .args .s .grid)
+n-is : (c : tie.After-count-of) → c .count-of .result ≡ countOf (c .before .before .before .before .before .before .args .s .grid)
 n-is c = c .count-of .ensures .0
 
 -- ---- what each test left
-first : (c : tie.Else1) → holds1 (c .before .before .before .before .before .args .s) (length (c .before .before .before .before .before .args .order .now)) ≡ true
+first : (c : tie.Else1) → holds1 (c .before .before .before .before .before .before .before .before .args .s) (length (c .before .before .before .before .before .before .before .before .args .order .now)) ≡ true
 first c = sym (c .before .holds-1 .ensures) ∙ not-false _ (c .if1 .left)
 
-second : (c : tie.Else2) → holds2 (c .before .before .before .before .before .before .before .args .s) (length (c .before .before .before .before .before .before .before .args .vectors .now)) ≡ true
+second : (c : tie.Else2) → holds2 (c .before .before .before .before .before .before .before .before .before .before .args .s) (length (c .before .before .before .before .before .before .before .before .before .before .args .vectors .now)) ≡ true
 second c = sym (c .before .holds-2 .ensures) ∙ not-false _ (c .if2 .left)
 
-components : (c : tie.Else3) → vectorsFit (c .before .before .before .before .before .before .before .before .before .args .vectors .now) (countOf (c .before .before .before .before .before .before .before .before .before .args .s .grid)) ≡ true
+components : (c : tie.Else3) → vectorsFit (c .before .before .before .before .before .before .before .before .before .before .before .before .args .vectors .now) (countOf (c .before .before .before .before .before .before .before .before .before .before .before .before .args .s .grid)) ≡ true
 components c = sym (rw (n-is (c .before .before .before .before .before .before)) at (c .before .vectors-fit .ensures)) ∙ not-false _ (c .if3 .left)
 
-third : (c : tie.Else4) → holds3 (c .before .before .before .before .before .before .before .before .before .before .before .args .s .planes) (c .before .before .before .before .before .before .before .before .before .before .before .args .luma) (c .before .before .before .before .before .before .before .before .before .before .before .args .u) (c .before .before .before .before .before .before .before .before .before .before .before .args .v) ≡ true
+third : (c : tie.Else4) → holds3 (c .before .before .before .before .before .before .before .before .before .before .before .before .before .before .args .s .planes) (length (c .before .before .before .before .before .before .before .before .before .before .before .before .before .before .args .luma .now)) (length (c .before .before .before .before .before .before .before .before .before .before .before .before .before .before .args .u .now)) (length (c .before .before .before .before .before .before .before .before .before .before .before .before .before .before .args .v .now)) ≡ true
 third c = sym (c .before .holds-3 .ensures) ∙ not-false _ (c .if4 .left)
 
-fourth : (c : tie.Else5) → orderHolds (c .before .before .before .before .before .before .before .before .before .before .before .before .before .args .s .grid) (c .before .before .before .before .before .before .before .before .before .before .before .before .before .args .order .now) (countOf (c .before .before .before .before .before .before .before .before .before .before .before .before .before .args .s .grid)) ≡ true
+fourth : (c : tie.Else5) → orderHolds (c .before .before .before .before .before .before .before .before .before .before .before .before .before .before .before .before .args .s .grid) (c .before .before .before .before .before .before .before .before .before .before .before .before .before .before .before .before .args .order .now) (countOf (c .before .before .before .before .before .before .before .before .before .before .before .before .before .before .before .before .args .s .grid)) ≡ true
 fourth c = sym (rw (n-is (c .before .before .before .before .before .before .before .before .before .before)) at (c .before .order-holds .ensures)) ∙ not-false _ (c .if5 .left)
 
-fifth : (c : tie.Else6) → hasRoom (countOf (c .before .before .before .before .before .before .before .before .before .before .before .before .before .before .before .args .s .grid)) (c .before .before .before .before .before .before .before .before .before .before .before .before .before .before .before .args .words) (c .before .before .before .before .before .before .before .before .before .before .before .before .before .before .before .args .indices) ≡ true
+fifth : (c : tie.Else6) → hasRoom (countOf (c .before .before .before .before .before .before .before .before .before .before .before .before .before .before .before .before .before .before .args .s .grid)) (c .before .before .before .before .before .before .before .before .before .before .before .before .before .before .before .before .before .before .args .words) (c .before .before .before .before .before .before .before .before .before .before .before .before .before .before .before .before .before .before .args .indices) ≡ true
 fifth c = sym (rw (n-is (c .before .before .before .before .before .before .before .before .before .before .before .before)) at (c .before .has-room .ensures)) ∙ not-false _ (c .if6 .left)
 
 -- ---- what the calls ask
 vectors-fit-requires : tie.Need-vectors-fit-requires
 vectors-fit-requires c κs =
-    let e = held-is (c .before .before .before .before .before .before .before .args .s) (length (c .before .before .before .before .before .before .before .args .vectors .now)) (second c) in
+    let e = held-is (c .before .before .before .before .before .before .before .before .before .before .args .s) (length (c .before .before .before .before .before .before .before .before .before .before .args .vectors .now)) (second c) in
     let n = n-is (c .before .before .before .before) in
     omega arith
 
 order-holds-requires : tie.Need-order-holds-requires
 order-holds-requires c κs =
-    let e = listed-is (c .before .before .before .before .before .before .before .before .before .before .before .args .s) (length (c .before .before .before .before .before .before .before .before .before .before .before .args .order .now)) (first (c .before .before .before .before .before .before)) in
+    let e = listed-is (c .before .before .before .before .before .before .before .before .before .before .before .before .before .before .args .s) (length (c .before .before .before .before .before .before .before .before .before .before .before .before .before .before .args .order .now)) (first (c .before .before .before .before .before .before)) in
     let n = n-is (c .before .before .before .before .before .before .before .before) in
     omega arith
 
 has-room-requires : tie.Need-has-room-requires
 has-room-requires c κs =
-    let k = settings (c .before .before .before .before .before .before .before .before .before .before .before .before .before .args .s) (length (c .before .before .before .before .before .before .before .before .before .before .before .before .before .args .order .now)) (length (c .before .before .before .before .before .before .before .before .before .before .before .before .before .args .vectors .now)) (first (c .before .before .before .before .before .before .before .before)) (second (c .before .before .before .before .before .before)) in
+    let k = settings (c .before .before .before .before .before .before .before .before .before .before .before .before .before .before .before .before .args .s) (length (c .before .before .before .before .before .before .before .before .before .before .before .before .before .before .before .before .args .order .now)) (length (c .before .before .before .before .before .before .before .before .before .before .before .before .before .before .before .before .args .vectors .now)) (first (c .before .before .before .before .before .before .before .before)) (second (c .before .before .before .before .before .before)) in
     let small = count-small k in
     let n = n-is (c .before .before .before .before .before .before .before .before .before .before) in
     omega arith
 
 all-fit-requires : tie.Need-all-fit-requires
 all-fit-requires c κs =
-    let a = c .before .before .before .before .before .before .before .before .before .before .before .before .before .before .before .args in
+    let a = c .before .before .before .before .before .before .before .before .before .before .before .before .before .before .before .before .before .before .args in
     rw (n-is (c .before .before .before .before .before .before .before .before .before .before .before .before))
-    (served (a .s) (a .order .now) (a .vectors .now) (a .luma) (a .u) (a .v) (first (c .before .before .before .before .before .before .before .before .before .before)) (second (c .before .before .before .before .before .before .before .before)) (components (c .before .before .before .before .before .before)) (third (c .before .before .before .before)) (fourth (c .before .before)))
+    (served (a .s) (a .order .now) (a .vectors .now) (length (a .luma .now)) (length (a .u .now)) (length (a .v .now)) (first (c .before .before .before .before .before .before .before .before .before .before)) (second (c .before .before .before .before .before .before .before .before)) (components (c .before .before .before .before .before .before)) (third (c .before .before .before .before)) (fourth (c .before .before)))
 
 -- ---- each answer
 returns : tie.Need-returns

@@ -1,13 +1,21 @@
--- By whether the block is negative. Assumes nothing.
-use mir.Facts.{toZ-ofZ}
-use Rattle.slots.proofs.write_luma.Statement.{statement}
-use Rattle.slots.proofs.write_luma.Tie as tie
+-- `write_luma` is a write over `luma_written`, and its middle parameter is a flag. The walk is Write's. Assumes nothing.
+use contract.Running.{givenOf, tables, tablesOf}
+use denote.Triple.Spec.{tripleOf}
+use denote.Triple.Table.{entered, cited}
+use Rattle.slots.specs.Slots.{lumaWritten}
+use Rattle.whole.proofs.Scalar.{flag, flag-known}
+use Rattle.slots.proofs.Write.{Core, meets}
+use Rattle.slots.proofs.luma_written.Symbol as core
+use Rattle.slots.proofs.luma_written.Met as core-met
+use Rattle.slots.proofs.write_luma.Key as key
+use Rattle.slots.proofs.write_luma as write
+use Rattle.slots.proofs.write_luma.Statement as stated
+use Rattle.slots.proofs.write_luma.Code as code
 
-returns : tie.Need-returns
-returns c = let f = c .before .fits .offset in simp (toZ-ofZ, c .if1 .taken)
-
-returns-2 : tie.Need-returns-2
-returns-2 c = let f = c .before .fits .offset in simp (toZ-ofZ, c .if1 .left)
-
-pub write-luma-spec : {M : Type 1} → statement M
-write-luma-spec = tie.close (tie.spec returns returns-2)
+pub write-luma-spec : {M : Type 1} → stated.statement M
+unfolding code.routine tablesOf
+write-luma-spec 𝓤 H 𝓜 𝓖 𝓡 =
+    entered 𝓤 H (tripleOf 𝓤 H (𝓖 .A) write.signature (write.spec 𝓤 H (𝓖 .A) (𝓜 .mem) (𝓡 .run)))
+    (tables 𝓤 H 𝓜 𝓡 code.env .C) (tables 𝓤 H 𝓜 𝓡 code.env .Λ) key.name code.function (code.unfolded 𝓤 H 𝓜 𝓡)
+    (meets 𝓤 H (𝓖 .A) (givenOf 𝓤 H 𝓜 𝓖) flag flag-known lumaWritten (tablesOf 𝓤 H 𝓜 (tables 𝓤 H 𝓜 𝓡 code.env)) core.name
+    (cited 𝓤 H (Core 𝓤 flag lumaWritten H (𝓖 .A)) 𝓜 𝓡 code.env core.name core.routine code.calls-slots·luma-written (core-met.met 𝓤 H 𝓜 𝓖 𝓡)))

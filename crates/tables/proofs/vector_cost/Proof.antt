@@ -45,13 +45,13 @@ pitch c = is-within w32 (c .pre .0 .1 .pitch-in) tt tt
 abbrev offsetAt : tie.Start → ℤ
 offsetAt c = let r = c .args .reference in subpelOf (r .place) (r .x +ℤ shiftedBy (c .args .vx) (r .shift)) (r .y +ℤ shiftedBy (c .args .vy) (r .shift))
 
-at-is : (c : tie.After-subpel) → toZ w64 (ofZ w64 (c .subpel .result)) ≡ offsetAt (c .before .before .before .before .before .before .before .before .before .before)
+at-is : (c : tie.After-offset-of) → toZ w64 (ofZ w64 (c .offset-of .result)) ≡ offsetAt (c .before .before .before .before .before .before .before .before .before .before)
 at-is c =
     let x = is-add (px (c .before .before .before .before .before .before .before .before .before .before)) (dx (c .before .before)) tt tt in
     let y = is-add (py (c .before .before .before .before .before .before .before .before .before .before)) (dy (c .before)) tt tt in
-    got w64 (c .subpel .ok) (rw (x .same, y .same) at (c .subpel .ensures))
+    got w64 (c .offset-of .ok) (rw (x .same, y .same) at (c .offset-of .ensures))
 
-at-near : (c : tie.After-subpel) → Near (offsetAt (c .before .before .before .before .before .before .before .before .before .before))
+at-near : (c : tie.After-offset-of) → Near (offsetAt (c .before .before .before .before .before .before .before .before .before .before))
 at-near c =
     let x = is-add (px (c .before .before .before .before .before .before .before .before .before .before)) (dx (c .before .before)) tt tt in
     let y = is-add (py (c .before .before .before .before .before .before .before .before .before .before)) (dy (c .before)) tt tt in
@@ -63,8 +63,8 @@ add-x c = ask-add (px (c .before .before .before .before .before .before .before
 add-y : tie.Need-add-y
 add-y c = ask-add (py (c .before .before .before .before .before .before .before .before .before)) (dy c) tt tt
 
-subpel-requires : tie.Need-subpel-requires
-subpel-requires c κs = c .before .before .before .before .before .before .before .before .before .pre .0 .1 .placed
+offset-of-requires : tie.Need-offset-of-requires
+offset-of-requires c κs = c .before .before .before .before .before .before .before .before .before .pre .0 .1 .placed
 
 cast-cost-at : tie.Need-cast-cost-at
 cast-cost-at c = ask-unsigned w64 (pitch (c .before .before .before .before .before .before .before .before .before .before)) tt
@@ -87,7 +87,7 @@ vector-cost-spec =
     add-x
     (λ c κs. search needs)
     add-y
-    subpel-requires
+    offset-of-requires
     cast-cost-at
     cost-at-requires
     returns)

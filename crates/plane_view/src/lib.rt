@@ -1,0 +1,75 @@
+// A plane as one thing: its bytes, and where they stand (base, pitch, sides and pel), in a struct that
+// refers to the bytes. Few functions take one, and each leaves its work to a function of plain
+// parameters. Who has a plane's parts calls the last three, and needs no view of his own.
+use plane::Place;
+ghost use mathlib.Core.Path.{_≡_};
+ghost use lib.ListN.{length};
+ghost use Rattle.plane.specs.Places.{keepsLength, subpelOf, Placed};
+ghost use Rattle.plane.specs.Samples.{sampleAt};
+
+pub struct PlaneView<'a> {
+    pub bytes: &'a [u8],
+    pub place: Place,
+}
+
+// ---- the work, on a plane's parts
+fn length_holds(bytes: &[u8], place: Place) -> bool
+    ensures { λ r. ⌜ r ≡ keepsLength place (length (now (bytes .entry))) ⌝ }
+{
+    plane::keeps_length(place, bytes.len())
+}
+
+fn sample_at(bytes: &[u8], place: Place, x: i32, y: i32) -> u8
+    requires { ⌜ Placed place ⌝ }
+    ensures { λ r. ⌜ r ≡ sampleAt (now (bytes .entry)) (subpelOf place x y) ⌝ }
+{
+    plane::sample(bytes, plane::subpel(place, x, y))
+}
+
+// ---- the view
+pub fn view_of<'a>(bytes: &'a [u8], place: Place) -> PlaneView<'a>
+    ensures { λ r. ⌜ (r .bytes ≡ bytes .entry) × (r .place ≡ place) ⌝ }
+{
+    PlaneView { bytes, place }
+}
+
+pub fn keeps_length<'a>(view: PlaneView<'a>) -> bool
+    ensures { λ r. ⌜ r ≡ keepsLength (view .entry .place) (length (now (view .entry .bytes))) ⌝ }
+{
+    length_holds(view.bytes, view.place)
+}
+
+pub fn subpel<'a>(view: PlaneView<'a>, x: i32, y: i32) -> i64
+    requires { ⌜ Placed (view .place) ⌝ }
+    ensures { λ r. ⌜ r ≡ subpelOf (view .entry .place) x y ⌝ }
+{
+    plane::subpel(view.place, x, y)
+}
+
+pub fn sample<'a>(view: PlaneView<'a>, x: i32, y: i32) -> u8
+    requires { ⌜ Placed (view .place) ⌝ }
+    ensures { λ r. ⌜ r ≡ sampleAt (now (view .entry .bytes)) (subpelOf (view .entry .place) x y) ⌝ }
+{
+    sample_at(view.bytes, view.place, x, y)
+}
+
+// ---- the same of a plane's parts, by way of a view
+pub fn length_kept(bytes: &[u8], place: Place) -> bool
+    ensures { λ r. ⌜ r ≡ keepsLength place (length (now (bytes .entry))) ⌝ }
+{
+    keeps_length(view_of(bytes, place))
+}
+
+pub fn offset_of(bytes: &[u8], place: Place, x: i32, y: i32) -> i64
+    requires { ⌜ Placed place ⌝ }
+    ensures { λ r. ⌜ r ≡ subpelOf place x y ⌝ }
+{
+    subpel(view_of(bytes, place), x, y)
+}
+
+pub fn sample_of(bytes: &[u8], place: Place, x: i32, y: i32) -> u8
+    requires { ⌜ Placed place ⌝ }
+    ensures { λ r. ⌜ r ≡ sampleAt (now (bytes .entry)) (subpelOf place x y) ⌝ }
+{
+    sample(view_of(bytes, place), x, y)
+}

@@ -1,0 +1,1 @@
+// Theorems alone: that each entry's contract leaves no choice, in specs/Sameness.antt.

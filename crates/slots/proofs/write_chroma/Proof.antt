@@ -1,0 +1,22 @@
+-- `write_chroma` is a write over `chroma_written`, and its middle parameter is a number. The walk is Write's. Assumes nothing.
+use mir.Syntax.{w32}
+use contract.Running.{givenOf, tables, tablesOf}
+use denote.Triple.Spec.{tripleOf}
+use denote.Triple.Table.{entered, cited}
+use Rattle.slots.specs.Slots.{chromaWritten}
+use Rattle.whole.proofs.Scalar.{signed, signed-known}
+use Rattle.slots.proofs.Write.{Core, meets}
+use Rattle.slots.proofs.chroma_written.Symbol as core
+use Rattle.slots.proofs.chroma_written.Met as core-met
+use Rattle.slots.proofs.write_chroma.Key as key
+use Rattle.slots.proofs.write_chroma as write
+use Rattle.slots.proofs.write_chroma.Statement as stated
+use Rattle.slots.proofs.write_chroma.Code as code
+
+pub write-chroma-spec : {M : Type 1} → stated.statement M
+unfolding code.routine tablesOf
+write-chroma-spec 𝓤 H 𝓜 𝓖 𝓡 =
+    entered 𝓤 H (tripleOf 𝓤 H (𝓖 .A) write.signature (write.spec 𝓤 H (𝓖 .A) (𝓜 .mem) (𝓡 .run)))
+    (tables 𝓤 H 𝓜 𝓡 code.env .C) (tables 𝓤 H 𝓜 𝓡 code.env .Λ) key.name code.function (code.unfolded 𝓤 H 𝓜 𝓡)
+    (meets 𝓤 H (𝓖 .A) (givenOf 𝓤 H 𝓜 𝓖) (signed w32) (signed-known w32) chromaWritten (tablesOf 𝓤 H 𝓜 (tables 𝓤 H 𝓜 𝓡 code.env)) core.name
+    (cited 𝓤 H (Core 𝓤 (signed w32) chromaWritten H (𝓖 .A)) 𝓜 𝓡 code.env core.name core.routine code.calls-slots·chroma-written (core-met.met 𝓤 H 𝓜 𝓖 𝓡)))
