@@ -21,13 +21,6 @@ fn wide(byte: u8) -> u64
     byte as u64
 }
 
-// What the four bytes say.
-fn value(out: &[u8; 4]) -> u64
-    ensures { λ r. ⌜ r ≤ 4294967295 ⌝ }
-{
-    wide(out[0]) + 256 * wide(out[1]) + 65536 * wide(out[2]) + 16777216 * wide(out[3])
-}
-
 fn cost_agrees(numbers: &[i64; 520], area: usize, answer: i64) -> bool
     requires { ⌜ area ≤ 256 ⌝ }
 {
@@ -38,8 +31,7 @@ fn cost_agrees(numbers: &[i64; 520], area: usize, answer: i64) -> bool
     let b = block(numbers, 3 + area);
     let mut out = [0u8; 4];
     let number = hirupango_block_cost(measure, width, height, &a, width, &b, width, &mut out);
-    let cost = value(&out) as i64;
-    (number == 0) & (cost == answer)
+    (number == 0) & cases::is(answer, little_endian::word_at(&out, 0))
 }
 
 // How many samples the sides say that a block has.

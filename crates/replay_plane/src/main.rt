@@ -1,6 +1,7 @@
 // Replays offsets and blocks that the Rust was asked about, and compares. A case's inputs begin with
 // base, pitch, width, height, pel, x and y. The answers of an offset are pel1 and subpel. A block goes
 // on with its sides, how many bytes there are and the bytes; its answers are the samples from subpel on.
+// Offsets and the first sample are asked of a view.
 use cases::Tally;
 use plane::Place;
 ghost use mathlib.Core.Path.{_≡_};
@@ -24,7 +25,8 @@ fn served(place: Place) -> bool
 fn offsets_agree(place: Place, x: i32, y: i32, at_pel1: i64, at_subpel: i64) -> bool
     requires { ⌜ Placed place ⌝ }
 {
-    (at_pel1 == plane::pel1(place, x, y)) & (at_subpel == plane::subpel(place, x, y))
+    let none = [0u8; 1];
+    (at_pel1 == plane::pel1(place, x, y)) & (at_subpel == plane_view::offset_of(&none, place, x, y))
 }
 
 fn side(number: i64) -> usize
@@ -74,7 +76,7 @@ fn block_at(bytes: &[u8], place: Place, x: i32, y: i32, w: usize, h: usize) -> [
     requires { ⌜ (w ≤ 16) × (h ≤ 16) ⌝ }
 {
     let pitch = place.pitch;
-    let at = plane::subpel(place, x, y);
+    let at = plane_view::offset_of(bytes, place, x, y);
     plane::gather(bytes, at, pitch as usize, w, h)
 }
 
@@ -86,8 +88,9 @@ fn block_agrees(numbers: &[i64; 800], place: Place, x: i32, y: i32, n: usize, co
     let h = side(numbers[8]);
     let bytes = data(numbers);
     let block = block_at(&bytes[..n], place, x, y, w, h);
+    let first = wide(plane_view::sample_of(&bytes[..n], place, x, y));
     let shaped = (numbers[9] == n as i64) & (count == 10 + n + area(w, h));
-    shaped & same(&block, numbers, 10 + n, area(w, h))
+    shaped & (numbers[10 + n] == first) & same(&block, numbers, 10 + n, area(w, h))
 }
 
 // A line of another shape differs.

@@ -1,7 +1,8 @@
-// Replays roots and scores that the Rust was asked about, and compares. A case's kind is told by its
-// number of inputs: a number whose root is taken, or vector, SAD, diagonal and average of a score.
+// Replays roots and scores that the Rust was asked about, scores through the function that a host
+// calls, and compares. A case's kind is told by its number of inputs: a number whose root is taken, or
+// vector, SAD, diagonal and average of a score.
 use cases::Tally;
-use score::Answer;
+use hirupango::hirupango_packed_score;
 
 fn root_agrees(numbers: &[i64; 64]) -> bool {
     let n = whole::wrap32(numbers[0]);
@@ -17,11 +18,9 @@ fn score_agrees(numbers: &[i64; 64]) -> bool {
     let sad = whole::wrap32(numbers[2]);
     let diagonal = whole::wrap32(numbers[3]);
     let average = whole::wrap32(numbers[4]);
-    let answer = score::packed_score(x, y, sad, diagonal, average);
-    let Answer::Is(word) = answer else {
-        return false;
-    };
-    cases::is(numbers[5], word)
+    let mut out = [0u8; 4];
+    let number = hirupango_packed_score(x, y, sad, diagonal, average, &mut out);
+    (number == 0) & cases::is(numbers[5], little_endian::word_at(&out, 0))
 }
 
 // A line of a shape that no kind has differs.

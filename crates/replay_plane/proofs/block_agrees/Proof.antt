@@ -9,6 +9,9 @@ use Rattle.replay_plane.proofs.block_agrees.Tie as tie
 slice-aggregate-block-at : tie.Need-slice-aggregate-block-at
 slice-aggregate-block-at c = sym (length-take-le _ _ (omega arith))
 
+slice-aggregate-sample-of : tie.Need-slice-aggregate-sample-of
+slice-aggregate-sample-of c = sym (length-take-le _ _ (omega arith))
+
 pub block-agrees-spec : {M : Type 1} → statement M
 block-agrees-spec =
     tie.close
@@ -22,9 +25,16 @@ block-agrees-spec =
     slice-aggregate-block-at
     (λ c κs. search needs)
     (λ c. search needs)
+    slice-aggregate-sample-of
+    (λ c κs. search needs)
+    (λ c κs. search needs)
+    (λ c. search needs)
     (λ c. search needs)
     (λ c. search needs)
     (λ c κs. search needs)
+    (λ c. search needs)
+    (λ c. search needs)
+    (λ c. search needs)
     (λ c. search needs)
     (λ c. search needs)
     (λ c κs. search needs)
