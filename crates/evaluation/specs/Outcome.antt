@@ -1,5 +1,5 @@
--- The outcome of evaluating as a whole: its contract leaves no choice, and a refusal changes nothing lent. Assumes nothing.
-use mathlib.Core.Path.{_≡_, sym, _∙_}
+-- The outcome of evaluating as a whole: a refusal changes nothing lent. Assumes nothing.
+use mathlib.Core.Path.{_≡_, sym}
 use mathlib.Core.List.{List}
 use Prim.Native.Nat.{ℕ, _<_}
 use lib.IntN.{ℤ}
@@ -13,10 +13,6 @@ module _ (q : Request) (records : List ℤ) (luma u v referenceLuma referenceU r
   pub record Outcome (number : ℕ) (written : List ℤ) : Type 0 where
     pub number-is : number ≡ evaluateAnswer q records luma u v referenceLuma referenceU referenceV (length bests)
     pub bests-are : written ≡ evaluateBests q records luma u v referenceLuma referenceU referenceV bests
-
-  -- two outcomes of one input are equal
-  pub same-outcome : {m n : ℕ} {w x : List ℤ} → Outcome m w → Outcome n x → (m ≡ n) × (w ≡ x)
-  same-outcome p r = (p .number-is ∙ sym (r .number-is), p .bests-are ∙ sym (r .bests-are))
 
   -- a refusal changes nothing lent
   pub refused : {n : ℕ} → n ≡ evaluateAnswer q records luma u v referenceLuma referenceU referenceV (length bests) →

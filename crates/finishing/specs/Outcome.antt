@@ -1,4 +1,4 @@
--- The outcome of finishing, as a whole: what the two lent buffers hold where it is done and where it is refused, and that its contract leaves no choice. Assumes nothing.
+-- The outcome of finishing as a whole: what the two lent buffers hold where it is done and where it is refused. Assumes nothing.
 use mathlib.Core.Path.{_≡_, sym, _∙_}
 use mathlib.Core.Bool.{Bool, true, false}
 use mathlib.Core.List.{List}
@@ -15,10 +15,6 @@ module _ (nx ny : ℤ) (indices bests : List ℤ) (diagonal : ℤ) (asked : Bool
     pub number-is : number ≡ finishAnswer nx ny indices bests diagonal asked (length vectors) (length output)
     pub vectors-are : stored ≡ finishVectors nx ny indices bests diagonal asked vectors (length output)
     pub output-is : written ≡ finishOutput nx ny indices bests diagonal asked (length vectors) output
-
-  -- two outcomes of one input are equal
-  pub same-outcome : {m n : ℕ} {v w u o : List ℤ} → Outcome m v u → Outcome n w o → (m ≡ n) × (v ≡ w) × (u ≡ o)
-  same-outcome p q = (p .number-is ∙ sym (q .number-is), p .vectors-are ∙ sym (q .vectors-are), p .output-is ∙ sym (q .output-is))
 
   -- a refusal changes nothing lent
   pub refused : (number : ℕ) → number ≡ finishAnswer nx ny indices bests diagonal asked (length vectors) (length output) → 0 < number → Outcome number vectors output

@@ -13,7 +13,7 @@ use Rattle.whole.specs.Interval.{Within}
 use Rattle.score.specs.declared.Answer.{Answer}
 use Rattle.score.specs.declared.Answer.the-variants.{Is}
 use Rattle.score.specs.declared.Answer.the-variants as answer
-use Rattle.score.specs.Diagonal.{frameFits, pick, diagonalOf, diagonalAnswer}
+use Rattle.score.specs.Diagonal.{frameFits, diagonalOf, diagonalAnswer}
 use Rattle.block.specs.declared.Settings.{Settings}
 use Rattle.planning.specs.declared.Made.{Made}
 use Rattle.planning.specs.declared.Planned.{Planned}
@@ -48,7 +48,7 @@ module _ (s : Settings) (framed : Framed s) where
   diagonal-given : {made : Made} → madeOf s ≡ made → diagonalAnswer (s .planes .luma .width) (s .planes .luma .height) (s .level .pel) ≡ Is (made .diagonal)
   unfolding diagonalAnswer madeOf
   diagonal-given e =
-      ap (λ (t : Bool). pick t (Is (diagonalOf (s .planes .luma .width) (s .planes .luma .height) (s .level .pel))) answer.Refused) (framed .frame)
+      ap (λ (t : Bool). cond t (Is (diagonalOf (s .planes .luma .width) (s .planes .luma .height) (s .level .pel))) answer.Refused) (framed .frame)
       ∙ ap (λ (m : Made). Is (m .diagonal)) e
 
 pub done-has : (s : Settings) (order vectors : List ℤ) (luma u v words indices : ℕ) {made : Made} → planAnswer s order vectors luma u v words indices ≡ Done made →

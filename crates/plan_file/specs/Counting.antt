@@ -1,22 +1,12 @@
--- One record more, for the two definitions that go through the records. Assumes nothing.
+-- One record more, and that no more are counted than there are. Assumes nothing.
 use mathlib.Core.Path.{_≡_, refl}
-use mathlib.Core.Bool.{Bool, true, false, cond, _||_}
+use mathlib.Core.Bool.{Bool, true, false, cond}
 use mathlib.Core.List.{List}
 use Prim.Native.Nat.{ℕ, zero, suc, _+_, _≤_}
 use native.Mathlib.Numerals.{add-one}
 use native.Mathlib.Omega.{arith}
-use lib.IntN.{ℤ}
 use Rattle.records.specs.declared.Record.{Record}
-use Rattle.window.specs.Windows.{isWide}
-use Rattle.plan_file.specs.PlanFile.{recordAt, anyWide, tally}
-
-pub no-records : (radius : ℤ) (file : List ℕ) → false ≡ anyWide radius file 0
-unfolding anyWide
-no-records radius file = refl
-
-pub one-more-asked : (radius : ℤ) (file : List ℕ) (n : ℕ) → anyWide radius file (n + 1) ≡ (anyWide radius file n || isWide radius (recordAt file n))
-unfolding anyWide
-one-more-asked radius file n = rw add-one
+use Rattle.plan_file.specs.PlanFile.{recordAt, tally}
 
 module _ (test : Record → Bool) (file : List ℕ) where
   pub none-counted : 0 ≡ tally test file 0

@@ -3,6 +3,7 @@ use mathlib.Core.Path.{_≡_, refl}
 use mathlib.Core.List.{List, [], _∷_, _++_}
 use Prim.Native.Nat.{ℕ}
 use lib.IntN.{ℤ, pos, negsuc}
+use Rattle.limits.specs.Refusals.{anyUpto}
 use Rattle.little_endian.specs.Bytes.{bytesOf, wordAt}
 use Rattle.records.specs.Packing.{absentWord}
 use Rattle.records.specs.Unpacking.{recordOf}
@@ -10,7 +11,7 @@ use Rattle.report_text.specs.Text.{codes, digitsBy, digits, decimal}
 use Rattle.plan_file.specs.declared.Head.{Head}
 use Rattle.plan_file.specs.declared.Plan.the-variants as plan
 use Rattle.window.specs.Windows.{isWide}
-use Rattle.plan_file.specs.PlanFile.{wordsAt, recordAt, trailerOf, trailerHolds, isPlanFile, anyWide, tally, headOf, planOf}
+use Rattle.plan_file.specs.PlanFile.{wordsAt, recordAt, trailerOf, trailerHolds, isPlanFile, tally, headOf, planOf}
 use Rattle.plan_file.specs.Report.{headText, lineText}
 
 abbrev pub asBytes : List ℤ → List ℕ
@@ -29,7 +30,7 @@ abbrev pub listedHead : Head
 listedHead = record { count = pos 1; searched = pos 0; width = pos 8; height = pos 8; pel = pos 2; slots = pos 10 }
 
 pub listing-accepted : planOf listed ≡ plan.Accepted listedHead
-unfolding planOf isPlanFile trailerHolds trailerOf headOf anyWide isWide tally recordAt wordsAt recordOf wordAt bytesOf
+unfolding planOf isPlanFile trailerHolds trailerOf headOf anyUpto isWide tally recordAt wordsAt recordOf wordAt bytesOf
 listing-accepted = refl
 
 -- "it prints"

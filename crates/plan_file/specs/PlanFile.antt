@@ -1,17 +1,16 @@
 -- 01, "Plan file": "Form 1: records of 12 little-endian words from byte 0, then a trailer of eight words that points back: bytes back to the first record
 -- (48 x count), count, width, height, pel, radius, SATD 0 or 1, form 1. Bytes back + 32 is the file's length. Size, pel and radius are inside the limits above."
 -- The limits: "Block 8x8, 16x8 or 16x16", "Pel 1, 2 or 4", a radius of at most 3. Definitions alone.
-use mathlib.Core.Bool.{Bool, false, cond, _&&_, _||_}
+use mathlib.Core.Bool.{Bool, cond, _&&_}
 use mathlib.Core.List.{List}
 use Prim.Native.Nat.{ℕ, zero, suc, _+_, _-_, _*_}
 use lib.Dec.{leb}
-use lib.IntN.{ℤ, pos, natAbs, _+ℤ_, _-ℤ_, _*ℤ_}
+use lib.IntN.{ℤ, pos, natAbs, _+ℤ_, _*ℤ_}
 use lib.ListN.{length}
-use lib.Signed.{ltZ, leZ, shrZ}
-use Rattle.whole.specs.Numbers.{liesIn, modZ}
+use Rattle.whole.specs.Numbers.{liesIn}
 use Rattle.limits.specs.Limits.{same, isBlock, isPel}
+use Rattle.limits.specs.Refusals.{anyUpto}
 use Rattle.little_endian.specs.Bytes.{wordAt}
-use Rattle.records.specs.declared.Pair.{Pair}
 use Rattle.records.specs.declared.Record.{Record}
 use Rattle.records.specs.declared.Words.{Words}
 use Rattle.records.specs.Unpacking.{recordOf}
@@ -74,9 +73,8 @@ unfoldable pub isPlanFile : List ℕ → Bool
 isPlanFile file = leb 32 (length file) && leb (length file) 65536 && trailerHolds (trailerOf file) (length file)
 
 -- whether any of the first so many records is so wide, and how many of them pass a test
-unfoldable pub anyWide : ℤ → List ℕ → ℕ → Bool
-anyWide radius file zero = false
-anyWide radius file (suc n) = anyWide radius file n || isWide radius (recordAt file n)
+abbrev pub anyWide : ℤ → List ℕ → ℕ → Bool
+anyWide radius file n = anyUpto (λ i. isWide radius (recordAt file i)) n
 
 unfoldable pub tally : (Record → Bool) → List ℕ → ℕ → ℕ
 tally test file zero = 0

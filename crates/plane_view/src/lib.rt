@@ -5,7 +5,7 @@ use plane::Place;
 ghost use mathlib.Core.Path.{_≡_};
 ghost use lib.ListN.{length};
 ghost use Rattle.plane.specs.Places.{keepsLength, subpelOf, Placed};
-ghost use Rattle.plane.specs.Samples.{sampleAt};
+ghost use Rattle.plane_view.specs.View.{placeSample};
 
 pub struct PlaneView<'a> {
     pub bytes: &'a [u8],
@@ -21,7 +21,7 @@ fn length_holds(bytes: &[u8], place: Place) -> bool
 
 fn sample_at(bytes: &[u8], place: Place, x: i32, y: i32) -> u8
     requires { ⌜ Placed place ⌝ }
-    ensures { λ r. ⌜ r ≡ sampleAt (now (bytes .entry)) (subpelOf place x y) ⌝ }
+    ensures { λ r. ⌜ r ≡ placeSample (now (bytes .entry)) place x y ⌝ }
 {
     plane::sample(bytes, plane::subpel(place, x, y))
 }
@@ -48,7 +48,7 @@ pub fn subpel<'a>(view: PlaneView<'a>, x: i32, y: i32) -> i64
 
 pub fn sample<'a>(view: PlaneView<'a>, x: i32, y: i32) -> u8
     requires { ⌜ Placed (view .place) ⌝ }
-    ensures { λ r. ⌜ r ≡ sampleAt (now (view .entry .bytes)) (subpelOf (view .entry .place) x y) ⌝ }
+    ensures { λ r. ⌜ r ≡ placeSample (now (view .entry .bytes)) (view .entry .place) x y ⌝ }
 {
     sample_at(view.bytes, view.place, x, y)
 }
@@ -69,7 +69,7 @@ pub fn offset_of(bytes: &[u8], place: Place, x: i32, y: i32) -> i64
 
 pub fn sample_of(bytes: &[u8], place: Place, x: i32, y: i32) -> u8
     requires { ⌜ Placed place ⌝ }
-    ensures { λ r. ⌜ r ≡ sampleAt (now (bytes .entry)) (subpelOf place x y) ⌝ }
+    ensures { λ r. ⌜ r ≡ placeSample (now (bytes .entry)) place x y ⌝ }
 {
     sample(view_of(bytes, place), x, y)
 }

@@ -23,7 +23,7 @@ use Rattle.limits.specs.Refused.{first-passed}
 use Rattle.score.specs.declared.Answer.{Answer}
 use Rattle.score.specs.declared.Answer.the-variants.{Is}
 use Rattle.score.specs.declared.Answer.the-variants as diagonal
-use Rattle.score.specs.Diagonal.{frameFits, pick, diagonalOf, diagonalAnswer, answerNumber}
+use Rattle.score.specs.Diagonal.{frameFits, diagonalOf, diagonalAnswer, answerNumber}
 use Rattle.plane.specs.declared.Place.{Place}
 use Rattle.plane.specs.Places.{limitsHold, lastEnd, keepsLength, Placed}
 use Rattle.plane.specs.Offsets.{pel-within, accepted-placed}
@@ -345,7 +345,7 @@ valueOf diagonal.Refused = pos 0
 module _ (width height pel : ℤ) (fits : frameFits width height pel ≡ true) where
   given : diagonalAnswer width height pel ≡ Is (diagonalOf width height pel)
   unfolding diagonalAnswer
-  given = ap (λ (t : Bool). pick t (Is (diagonalOf width height pel)) diagonal.Refused) fits
+  given = ap (λ (t : Bool). cond t (Is (diagonalOf width height pel)) diagonal.Refused) fits
 
   pub diagonal-given : {d : ℤ} → diagonalAnswer width height pel ≡ Is d → d ≡ diagonalOf width height pel
   diagonal-given e = ap valueOf (sym e ∙ given)

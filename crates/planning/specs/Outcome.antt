@@ -1,5 +1,5 @@
--- The outcome of planning as a whole: its contract leaves no choice, and a refusal changes nothing lent. Assumes nothing.
-use mathlib.Core.Path.{_≡_, sym, _∙_}
+-- The outcome of planning as a whole: a refusal changes nothing lent. Assumes nothing.
+use mathlib.Core.Path.{_≡_, sym}
 use mathlib.Core.List.{List}
 use Prim.Native.Nat.{ℕ, _<_}
 use native.Mathlib.Omega.{arith}
@@ -19,10 +19,6 @@ module _ (s : Settings) (order vectors : List ℤ) (luma u v : ℕ) (records ind
     pub answer-is : answer ≡ planAnswer s order vectors luma u v (length records) (length indices)
     pub records-are : written ≡ planRecords s order vectors luma u v records (length indices)
     pub indices-are : listed ≡ planIndices s order vectors luma u v (length records) indices
-
-  -- two outcomes of one input are equal
-  pub same-outcome : {a b : Planned} {w x l m : List ℤ} → Outcome a w l → Outcome b x m → (a ≡ b) × (w ≡ x) × (l ≡ m)
-  same-outcome p q = (p .answer-is ∙ sym (q .answer-is), p .records-are ∙ sym (q .records-are), p .indices-are ∙ sym (q .indices-are))
 
   -- a refusal gives its number alone, and changes nothing lent
   pub refused : 0 < refusalOf s order vectors luma u v (length records) (length indices) →

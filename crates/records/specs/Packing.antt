@@ -2,7 +2,7 @@
 -- "Record words: full, overlay, u, v, average; pairs position, chroma position (both x pel), predictor, x window, y window; SAD; lambda x 4 + flags
 -- (BAD 1, NEGATIVE 2). Pairs fit i16, lambda is from -2^28 to 2^28 - 1, flags are 0 to 3, and no present offset is i32::MIN; any other record doesn't fit."
 -- Definitions alone.
-use mathlib.Core.Bool.{Bool, true, false, _&&_}
+use mathlib.Core.Bool.{Bool, true, _&&_, cond}
 use Prim.Native.Nat.{ℕ}
 use lib.IntN.{ℤ, pos, negsuc, _+ℤ_, _*ℤ_}
 use lib.Signed.{ltZ}
@@ -40,14 +40,10 @@ pairFits pair = partFits (pair .first) && partFits (pair .second)
 abbrev pub pairWord : Pair → ℤ
 pairWord pair = wrapped w32 (pair .second *ℤ pos 65536 +ℤ pos (modZ (pair .first) 65536))
 
-abbrev pickPair : Bool → PackedPair → PackedPair → PackedPair
-pickPair true a b = a
-pickPair false a b = b
-
 unfoldable pub packedPair : ℤ → ℤ → PackedPair
 packedPair first second =
     let pair : Pair = record { first = first; second = second } in
-    pickPair (pairFits pair) (pair-answers.Fits (pairWord pair)) pair-answers.Misfit
+    cond (pairFits pair) (pair-answers.Fits (pairWord pair)) pair-answers.Misfit
 
 -- ---- the last word: lambda x 4 + flags
 abbrev pub lambdaFits : ℤ → Bool
@@ -86,12 +82,8 @@ recordWords r =
       last = lastWord (r .lambda) (r .flags);
     }
 
-abbrev pub pick : Bool → Packed → Packed → Packed
-pick true a b = a
-pick false a b = b
-
 unfoldable pub packedRecord : Record → Packed
-packedRecord r = pick (recordFits r) (answers.Fits (recordWords r)) answers.Misfit
+packedRecord r = cond (recordFits r) (answers.Fits (recordWords r)) answers.Misfit
 
 -- ---- 01's numbers for the answers: 0 done, 6 "in planning or packing, a record doesn't fit"
 abbrev pub pairNumber : PackedPair → ℕ

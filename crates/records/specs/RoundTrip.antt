@@ -1,12 +1,11 @@
 -- Packing and unpacking undo each other. Assumes nothing.
 -- `pack-then-unpack`: a record that was packed is read back from its words. `unpack-then-pack`: any 12 words are written again from the record that
 -- they hold, exactly where the lambda in the last of them fits; every other part of what is unpacked fits always.
-use mathlib.Core.Path.{_≡_, refl, sym, ap, subst, _∙_}
-use mathlib.Core.Bool.{Bool, true, false, _&&_}
+use mathlib.Core.Path.{_≡_, refl, sym, ap, _∙_}
+use mathlib.Core.Bool.{Bool, true, false, _&&_, cond}
 use Prim.Native.Nat.{ℕ, _+_, _*_, _<_}
 use native.Mathlib.Omega.{arith}
-use lib.Dec.{T, leb, lit<}
-use borrow.Author.Tests.{leb-true, le-leb}
+use lib.Dec.{lit<}
 use lib.IntN.{ℤ, pos, negsuc, _+ℤ_, _*ℤ_}
 use lib.Signed.{ltZ, leZ, shrZ}
 use mir.Syntax.{w16, w32}
@@ -22,7 +21,7 @@ use Rattle.records.specs.declared.Pair.{Pair}
 use Rattle.records.specs.declared.Record.{Record}
 use Rattle.records.specs.declared.Words.{Words}
 use Rattle.records.specs.declared.Packed.the-variants as answers
-use Rattle.records.specs.Packing.{absentWord, offsetWord, offsetFits, partFits, pairFits, pairWord, lambdaFits, lastFits, lastWord, offsetsFit, pairsFit, recordFits, recordWords, packedRecord, pick}
+use Rattle.records.specs.Packing.{absentWord, offsetWord, offsetFits, partFits, pairFits, pairWord, lambdaFits, lastFits, lastWord, offsetsFit, pairsFit, recordFits, recordWords, packedRecord}
 use Rattle.records.specs.Alike.{alike-pairs, alike-words, alike-records}
 use Rattle.records.specs.Unpacking.{offsetOf, pairOf, recordOf}
 
@@ -161,7 +160,7 @@ back r fits =
     (pair-back (r .«window_y») (p .4))
     refl (l .high) (l .low)
 
-by-fit : (t : Bool) {r : Record} {w : Words} → recordFits r ≡ t → pick t (answers.Fits (recordWords r)) answers.Misfit ≡ answers.Fits w → recordOf w ≡ r
+by-fit : (t : Bool) {r : Record} {w : Words} → recordFits r ≡ t → cond t (answers.Fits (recordWords r)) answers.Misfit ≡ answers.Fits w → recordOf w ≡ r
 by-fit true {r} {w} fits e = let same : recordWords r ≡ w = cc in ap recordOf (sym same) ∙ back r fits
 by-fit false fits e = let clash : _≡_ {A = ℕ} 0 1 = cc in absurd (omega arith)
 
@@ -202,6 +201,6 @@ unpacked-fits w h =
     true-and (both-of offsets pairs) ∙ last-of-word (w .last)
 
 -- any 12 words are written again from the record that they hold, exactly where the lambda in the last of them fits
-pub unpack-then-pack : (w : Words) → Held w → packedRecord (recordOf w) ≡ pick (lambdaFits (shrZ (w .last) 4)) (answers.Fits w) answers.Misfit
+pub unpack-then-pack : (w : Words) → Held w → packedRecord (recordOf w) ≡ cond (lambdaFits (shrZ (w .last) 4)) (answers.Fits w) answers.Misfit
 unfolding packedRecord
 unpack-then-pack w h = rw (unpacked-fits w h, words-back w h)

@@ -1,6 +1,6 @@
 -- 01, "Planning": "Diagonal is pel x the largest whole number whose square is at most width squared + height squared." Definitions alone.
 -- That this root is the one which the Rust takes by floating point is a theorem of the crate ieee_root.
-use mathlib.Core.Bool.{Bool, true, false, _&&_}
+use mathlib.Core.Bool.{Bool, _&&_, cond}
 use Prim.Native.Nat.{ℕ, _+_, _*_}
 use lib.IntN.{ℤ, pos, _*ℤ_, natAbs}
 use Rattle.whole.specs.Numbers.{rootOf}
@@ -17,12 +17,8 @@ diagonalOf width height pel = pel *ℤ pos (rootOf (squared width + squared heig
 abbrev pub frameFits : ℤ → ℤ → ℤ → Bool
 frameFits width height pel = isFrameSide width && isFrameSide height && isPel pel
 
-abbrev pub pick : Bool → Answer → Answer → Answer
-pick true a b = a
-pick false a b = b
-
 unfoldable pub diagonalAnswer : ℤ → ℤ → ℤ → Answer
-diagonalAnswer width height pel = pick (frameFits width height pel) (Is (diagonalOf width height pel)) Refused
+diagonalAnswer width height pel = cond (frameFits width height pel) (Is (diagonalOf width height pel)) Refused
 
 -- 01's numbers: 0 done, 2 "another number outside the limits"
 abbrev pub answerNumber : Answer → ℕ

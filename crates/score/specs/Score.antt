@@ -9,7 +9,6 @@ use Rattle.whole.specs.Numbers.{modZ, wrapped}
 use Rattle.limits.specs.Limits.{isComponent}
 use Rattle.score.specs.declared.Answer.{Answer}
 use Rattle.score.specs.declared.Answer.the-variants.{Is, Refused}
-use Rattle.score.specs.Diagonal.{pick}
 
 -- "word 2 x index is (x << 16) + y, wrapping"
 abbrev pub outputWord : ℤ → ℤ → ℤ
@@ -39,4 +38,4 @@ scoreFits x y diagonal = isComponent x && isComponent y && ltZ (pos 0) diagonal
 
 unfoldable pub scoreAnswer : ℤ → ℤ → ℤ → ℤ → ℤ → Answer
 unfolding packedScore
-scoreAnswer x y sad diagonal average = pick (scoreFits x y diagonal) (Is (packedScore x y sad diagonal average)) Refused
+scoreAnswer x y sad diagonal average = cond (scoreFits x y diagonal) (Is (packedScore x y sad diagonal average)) Refused

@@ -2,12 +2,13 @@
 -- limits" (a side over 2,048), 4 "an order entry, index or serpentine position outside the grid given", 5 "a lent output is too short".
 -- Definitions alone.
 use mathlib.Core.List.{List}
-use mathlib.Core.Bool.{Bool, cond, _||_}
+use mathlib.Core.Bool.{Bool, _||_}
 use Prim.Native.Nat.{ℕ, zero, suc, _*_}
 use lib.Dec.{ltb}
 use lib.IntN.{ℤ, pos, natAbs, _*ℤ_}
 use lib.ListN.{length}
 use lib.Signed.{ltZ, leZ}
+use Rattle.limits.specs.Refusals.{first}
 use Rattle.serpentine.specs.declared.Place.{Place}
 use Rattle.serpentine.specs.declared.Position.{Position}
 use Rattle.serpentine.specs.declared.Position.the-variants as position
@@ -16,10 +17,6 @@ use Rattle.serpentine.specs.declared.Block.the-variants as block
 use Rattle.serpentine.specs.Walk.{at, blockAt, positionAt, filled}
 
 -- ---- the refusals: "If several apply, the lowest is given"
--- a refusal's number where its test holds, else what the rest of the table gives
-abbrev pub first : Bool → ℕ → ℕ → ℕ
-first test number rest = cond test number rest
-
 abbrev pub bySides : ℤ → ℤ → ℕ → ℕ
 bySides nx ny rest =
     first (ltZ nx (pos 2) || ltZ ny (pos 2)) 1

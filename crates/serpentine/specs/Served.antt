@@ -12,7 +12,8 @@ use mir.Val.{Fits, SFits, bits, toZ, ofZ}
 use borrow.Author.Tests.{ltb-false}
 use Rattle.whole.specs.Signed.{signed, abs-is, eq-is, holds, ltZ-false, leZ-false, ltZ-no!, leZ-no! }
 use Rattle.serpentine.specs.Walk.{Sides}
-use Rattle.serpentine.specs.Answers.{first, bySides, isOutside, answered, positionRefusal, blockRefusal, orderRefusal}
+use Rattle.limits.specs.Refusals.{first}
+use Rattle.serpentine.specs.Answers.{bySides, isOutside, answered, positionRefusal, blockRefusal, orderRefusal}
 
 -- ---- tests joined by `||`
 neither-first : (a b : Bool) → (a || b) ≡ false → a ≡ false

@@ -7,9 +7,9 @@ use mir.Facts.{toZ-ofZ}
 use mir.Syntax.{w32}
 use mir.Val.{toZ, ofZ}
 use Rattle.whole.specs.Truth.{either-alike}
+use Rattle.limits.specs.Refused.{any-none, any-more}
 use Rattle.window.specs.Windows.{isWide}
-use Rattle.plan_file.specs.PlanFile.{anyWide}
-use Rattle.plan_file.specs.Counting.{no-records, one-more-asked}
+use Rattle.plan_file.specs.PlanFile.{recordAt, anyWide}
 use Rattle.plan_file.proofs.any_wide.Statement.{statement}
 use Rattle.plan_file.proofs.any_wide.Tie as tie
 
@@ -26,7 +26,7 @@ loop-again c =
     let radius = toZ w32 (ofZ w32 (s .args .radius)) in (
       omega arith,
       either-alike (l .loop .inv .1) (c .is-wide .ensures ∙ ap (isWide radius) (c .before .record-at .ensures))
-          ∙ sym (one-more-asked radius (s .args .file .now) (l .loop .number)),
+          ∙ sym (any-more (λ i. isWide radius (recordAt (s .args .file .now) i)) (l .loop .number)),
     )
 
 returns : tie.Need-returns Inv-loop μ-loop
@@ -43,7 +43,7 @@ any-wide-spec =
     (tie.spec
     Inv-loop
     μ-loop
-    (λ c. (omega arith, no-records _ _))
+    (λ c. (omega arith, any-none _))
     (λ c κs. omega (arith, c .before .before .before .pre, c .loop-test .taken))
     (λ c κs. tt)
     (λ c. omega arith)

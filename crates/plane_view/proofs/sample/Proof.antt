@@ -39,8 +39,8 @@ use Rattle.plane.specs.declared.Place.{Place}
 use Rattle.plane_view.specs.declared.PlaneView.{PlaneView}
 use Rattle.plane_view.proofs.PlaneView.Laws as T′
 use Rattle.plane_view.proofs.Parts.{View, Spot, view-val, bytes-val, place-val, place-makes, place-typed, Own, Bytes, place-is, view-typed, lends}
-use Rattle.plane.specs.Places.{subpelOf, Placed}
-use Rattle.plane.specs.Samples.{sampleAt}
+use Rattle.plane.specs.Places.{Placed}
+use Rattle.plane_view.specs.View.{placeSample}
 use Rattle.plane_view.proofs.sample_at as work
 use Rattle.plane_view.proofs.sample_at.Symbol as work-def
 use Rattle.plane_view.proofs.sample_at.Met as work-thm
@@ -68,7 +68,7 @@ module _ {M : Type 1} (𝓤 : URA M) (H : Heap 𝓤) (A : Atoms 𝓤) (W : Given
   vals = (view-val d ∷ [], (vi x ∷ [], (vi y ∷ [], tt)))
 
   abbrev answer : ℕ
-  answer = sampleAt (now (d .bytes)) (subpelOf (d .place) x y)
+  answer = placeSample (now (d .bytes)) (d .place) x y
 
   abbrev Post : Val → SProp 𝓤
   Post = walkOf 𝓤 H A thin.ended stayed (thin.clauses 𝓤 H A mem run) .post (((κ, tt), (q, tt), tt, args, vals), tt)

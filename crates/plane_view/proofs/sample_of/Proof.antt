@@ -3,12 +3,7 @@ use mir.Syntax.{w8}
 use contract.Running.{givenOf, tables, tablesOf}
 use denote.Triple.Spec.{tripleOf}
 use denote.Triple.Table.{entered, cited}
-use Prim.Native.Nat.{ℕ}
-use mathlib.Core.List.{List}
-use lib.IntN.{ℤ}
-use Rattle.plane.specs.declared.Place.{Place}
-use Rattle.plane.specs.Places.{subpelOf}
-use Rattle.plane.specs.Samples.{sampleAt}
+use Rattle.plane_view.specs.View.{placeSample}
 use Rattle.whole.proofs.Scalar.{unsigned, unsigned-known}
 use Rattle.plane_view.proofs.Above.{Thin, meets}
 use Rattle.plane_view.proofs.Making.{New}
@@ -21,15 +16,11 @@ use Rattle.plane_view.proofs.sample_of as above
 use Rattle.plane_view.proofs.sample_of.Statement as stated
 use Rattle.plane_view.proofs.sample_of.Code as code
 
--- what is answered of the bytes, the place and the two numbers
-abbrev answer : List ℕ → Place → ℤ → ℤ → ℕ
-answer bytes place x y = sampleAt bytes (subpelOf place x y)
-
 pub sample-of-spec : {M : Type 1} → stated.statement M
 unfolding code.routine tablesOf
 sample-of-spec 𝓤 H 𝓜 𝓖 𝓡 =
     entered 𝓤 H (tripleOf 𝓤 H (𝓖 .A) above.signature (above.spec 𝓤 H (𝓖 .A) (𝓜 .mem) (𝓡 .run)))
     (tables 𝓤 H 𝓜 𝓡 code.env .C) (tables 𝓤 H 𝓜 𝓡 code.env .Λ) key.name code.function (code.unfolded 𝓤 H 𝓜 𝓡)
-    (meets 𝓤 H (𝓖 .A) (givenOf 𝓤 H 𝓜 𝓖) (𝓜 .mem) (𝓡 .run) (unsigned w8) (unsigned-known w8) answer (tablesOf 𝓤 H 𝓜 (tables 𝓤 H 𝓜 𝓡 code.env)) thin-def.name
+    (meets 𝓤 H (𝓖 .A) (givenOf 𝓤 H 𝓜 𝓖) (𝓜 .mem) (𝓡 .run) (unsigned w8) (unsigned-known w8) placeSample (tablesOf 𝓤 H 𝓜 (tables 𝓤 H 𝓜 𝓡 code.env)) thin-def.name
     (cited 𝓤 H (New 𝓤 H (𝓖 .A) (𝓜 .mem) (𝓡 .run)) 𝓜 𝓡 code.env new-def.name new-def.routine code.calls-plane-view·view-of (new-thm.met 𝓤 H 𝓜 𝓖 𝓡))
-    (cited 𝓤 H (Thin 𝓤 (unsigned w8) answer H (𝓖 .A)) 𝓜 𝓡 code.env thin-def.name thin-def.routine code.calls-plane-view·sample (thin-thm.met 𝓤 H 𝓜 𝓖 𝓡)))
+    (cited 𝓤 H (Thin 𝓤 (unsigned w8) placeSample H (𝓖 .A)) 𝓜 𝓡 code.env thin-def.name thin-def.routine code.calls-plane-view·sample (thin-thm.met 𝓤 H 𝓜 𝓖 𝓡)))

@@ -7,7 +7,8 @@ use lib.IntN.{_*ℤ_}
 use mir.Facts.{toZ-ofZ}
 use mir.Syntax.{w32}
 use mir.Val.{SFits}
-use Rattle.serpentine.specs.Answers.{first, blockRefusal}
+use Rattle.limits.specs.Refusals.{first}
+use Rattle.serpentine.specs.Answers.{blockRefusal}
 use Rattle.serpentine.specs.Sizes.{blocks-most}
 use Rattle.serpentine.specs.Served.{Grid, grid-passes, product-is, sides-refused, sides-accepted}
 use Rattle.serpentine.proofs.block_refusal.Statement.{statement}

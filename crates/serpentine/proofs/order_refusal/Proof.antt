@@ -10,7 +10,8 @@ use lib.IntN.{natAbs}
 use mir.Facts.{toZ-ofZ}
 use mir.Syntax.{w32}
 use mir.Val.{toZ, ofZ}
-use Rattle.serpentine.specs.Answers.{first, orderRefusal}
+use Rattle.limits.specs.Refusals.{first}
+use Rattle.serpentine.specs.Answers.{orderRefusal}
 use Rattle.serpentine.specs.Sizes.{blocks-most}
 use Rattle.serpentine.specs.Served.{Grid, grid-passes, natural-cast, sides-refused, sides-accepted}
 use Rattle.serpentine.proofs.order_refusal.Statement.{statement}

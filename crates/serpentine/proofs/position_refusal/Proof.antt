@@ -3,7 +3,8 @@ use borrow.Author.Needs.{needs}
 use mathlib.Core.Path.{_≡_, sym, _∙_}
 use mathlib.Core.Bool.{Bool, _||_}
 use mir.Facts.{toZ-ofZ}
-use Rattle.serpentine.specs.Answers.{first, positionRefusal}
+use Rattle.limits.specs.Refusals.{first}
+use Rattle.serpentine.specs.Answers.{positionRefusal}
 use Rattle.serpentine.specs.Served.{either-tells, grid-passes, sides-refused, sides-accepted}
 use Rattle.serpentine.proofs.position_refusal.Statement.{statement}
 use Rattle.serpentine.proofs.position_refusal.Tie as tie

@@ -1,0 +1,121 @@
+-- 01, "Code places and their forms": "When an answer is an enum, the promises use a definition that gives this paper's number and values for each case of the enum." An entry's contract
+-- names the case with its values. Here is the number of that case, for each entry whose answer is an enum: it is the table's, whatever the input. Assumes nothing.
+use mathlib.Core.Path.{_≡_, refl}
+use mathlib.Core.Bool.{Bool, true, false, cond, not}
+use mathlib.Core.List.{List}
+use Prim.Native.Nat.{ℕ, zero, suc}
+use lib.Dec.{ltb}
+use lib.IntN.{ℤ, pos, natAbs}
+use lib.ListN.{length}
+use Rattle.limits.specs.Refusals.{first}
+use Rattle.records.specs.declared.Pair.{Pair}
+use Rattle.records.specs.declared.Record.{Record}
+use Rattle.records.specs.Packing.{pairFits, packedPair, pairNumber, recordFits, packedRecord, recordNumber}
+use Rattle.serpentine.specs.Answers.{positionRefusal, positionAnswer, positionNumber, blockRefusal, blockAnswer, blockNumber}
+use Rattle.serpentine.specs.Entries.{number-of-position, number-of-block}
+use Rattle.score.specs.Diagonal.{frameFits, diagonalAnswer, answerNumber}
+use Rattle.score.specs.Score.{scoreFits, scoreAnswer}
+use Rattle.block.specs.declared.Settings.{Settings}
+use Rattle.planning.specs.declared.Made.{Made}
+use Rattle.planning.specs.Refusals.{refusalOf}
+use Rattle.planning.specs.Planned as planned
+use Rattle.report_text.specs.declared.Written.{Written}
+use Rattle.report_text.specs.declared.Written.the-variants as written
+use Rattle.report_text.specs.Putting.{lentAnswer}
+use Rattle.plan_file.specs.declared.Plan.the-variants as plan
+use Rattle.plan_file.specs.declared.Head.{Head}
+use Rattle.plan_file.specs.PlanFile as file
+use Rattle.plan_file.specs.Report.{headText, lineText, answered, headAnswer, lineAnswer, writtenNumber}
+
+-- the number of an answer that is done where a test holds, and refused with n where it does not
+by-test : {X : Type 0} (number : X → ℕ) (t : Bool) {a b : X} {n : ℕ} → number a ≡ 0 → number b ≡ n → number (cond t a b) ≡ first (not t) n 0
+by-test number true done refused = done
+by-test number false done refused = refused
+
+-- ---- records: 6 where a pair or a record doesn't fit
+pub pack-pair-number : (a b : ℤ) → pairNumber (packedPair a b) ≡ first (not (pairFits (record { first = a; second = b }))) 6 0
+unfolding packedPair
+pack-pair-number a b = by-test pairNumber (pairFits (record { first = a; second = b })) refl refl
+
+pub pack-record-number : (r : Record) → recordNumber (packedRecord r) ≡ first (not (recordFits r)) 6 0
+unfolding packedRecord
+pack-record-number r = by-test recordNumber (recordFits r) refl refl
+
+-- ---- serpentine: 1, 2 and 4
+pub serpentine-position-number : (nx ny bx by : ℤ) → positionNumber (positionAnswer nx ny bx by) ≡ positionRefusal nx ny bx by
+serpentine-position-number = number-of-position
+
+pub serpentine-block-number : (nx ny position : ℤ) → blockNumber (blockAnswer nx ny position) ≡ blockRefusal nx ny position
+serpentine-block-number = number-of-block
+
+-- ---- score: 2
+pub diagonal-number : (width height pel : ℤ) → answerNumber (diagonalAnswer width height pel) ≡ first (not (frameFits width height pel)) 2 0
+unfolding diagonalAnswer
+diagonal-number width height pel = by-test answerNumber (frameFits width height pel) refl refl
+
+pub packed-score-number : (x y sad diagonal average : ℤ) → answerNumber (scoreAnswer x y sad diagonal average) ≡ first (not (scoreFits x y diagonal)) 2 0
+unfolding scoreAnswer
+packed-score-number x y sad diagonal average = by-test answerNumber (scoreFits x y diagonal) refl refl
+
+-- ---- planning: the lowest of 1 to 6 that applies
+pub plan-number : (s : Settings) (order vectors : List ℤ) (luma u v words indices : ℕ)
+    → planned.planNumber (planned.planAnswer s order vectors luma u v words indices) ≡ refusalOf s order vectors luma u v words indices
+unfolding planned.planAnswer
+plan-number s order vectors luma u v words indices = go (refusalOf s order vectors luma u v words indices) (planned.madeOf s)
+  where
+    go : (n : ℕ) (made : Made) → planned.planNumber (planned.answered n made) ≡ n
+    go zero made = refl
+    go (suc n) made = refl
+
+-- ---- plan files: 8, then 7; of a report's lines then 4 where no record has the number, and 5 where the line is too short
+lent-number : (text : List ℕ) (room : ℕ) → writtenNumber (lentAnswer text room) ≡ first (ltb room (length text)) 5 0
+lent-number text room = go (ltb room (length text))
+  where
+    go : (t : Bool) → writtenNumber (cond t (written.Refused 5) (written.Length (length text))) ≡ first t 5 0
+    go true = refl
+    go false = refl
+
+module _ (bytes : List ℕ) where
+  abbrev wide : Bool
+  wide = file.anyWide (file.trailerOf bytes .radius) bytes (natAbs (file.trailerOf bytes .count))
+
+  -- the file's own refusals, and then the rest
+  abbrev ofFile : ℕ → ℕ
+  ofFile rest = first (not (file.isPlanFile bytes)) 8 (first wide 7 rest)
+
+  pub check-plan-file-number : file.planNumber (file.planOf bytes) ≡ ofFile 0
+  unfolding file.planOf
+  check-plan-file-number = go (file.isPlanFile bytes) wide
+    where
+      go : (t w : Bool) → file.planNumber (cond t (cond w (plan.Refused 7) (plan.Accepted (file.headOf bytes))) (plan.Refused 8)) ≡ first (not t) 8 (first w 7 0)
+      go true true = refl
+      go true false = refl
+      go false w = refl
+
+  -- an answer that is asked of the head, where the file has one
+  of-head : (f : Head → Written) (n : ℕ) → writtenNumber (f (file.headOf bytes)) ≡ n → writtenNumber (answered (file.planOf bytes) f) ≡ ofFile n
+  unfolding file.planOf
+  of-head f n e = go (file.isPlanFile bytes) wide
+    where
+      go : (t w : Bool) → writtenNumber (answered (cond t (cond w (plan.Refused 7) (plan.Accepted (file.headOf bytes))) (plan.Refused 8)) f) ≡ first (not t) 8 (first w 7 n)
+      go true true = refl
+      go true false = e
+      go false w = refl
+
+  pub report-head-number : (room : ℕ) → writtenNumber (headAnswer bytes room) ≡ ofFile (first (ltb room (length (headText (file.headOf bytes)))) 5 0)
+  unfolding headAnswer
+  report-head-number room = of-head (λ head. lentAnswer (headText head) room) _ (lent-number (headText (file.headOf bytes)) room)
+
+  pub report-line-number : (number room : ℕ)
+      → writtenNumber (lineAnswer bytes number room)
+      ≡ ofFile (first (not (ltb number (natAbs (file.headOf bytes .count)))) 4 (first (ltb room (length (lineText (pos number) (file.recordAt bytes number)))) 5 0))
+  unfolding lineAnswer
+  report-line-number number room =
+      of-head (λ head. cond (ltb number (natAbs (head .count))) (lentAnswer text room) (written.Refused 4)) _ (go (ltb number (natAbs (file.headOf bytes .count))))
+    where
+      text : List ℕ
+      text = lineText (pos number) (file.recordAt bytes number)
+
+      go : (t : Bool) → writtenNumber (cond t (lentAnswer text room) (written.Refused 4)) ≡ first (not t) 4 (first (ltb room (length text)) 5 0)
+      go true = lent-number text room
+      go false = refl
