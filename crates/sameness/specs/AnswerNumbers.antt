@@ -68,8 +68,8 @@ plan-number s order vectors luma u v words indices = go (refusalOf s order vecto
     go (suc n) made = refl
 
 -- ---- plan files: 8, then 7; of a report's lines then 4 where no record has the number, and 5 where the line is too short
-lent-number : (text : List ℕ) (room : ℕ) → writtenNumber (lentAnswer text room) ≡ first (ltb room (length text)) 5 0
-lent-number text room = go (ltb room (length text))
+pub lay-number : (text : List ℕ) (room : ℕ) → writtenNumber (lentAnswer text room) ≡ first (ltb room (length text)) 5 0
+lay-number text room = go (ltb room (length text))
   where
     go : (t : Bool) → writtenNumber (cond t (written.Refused 5) (written.Length (length text))) ≡ first t 5 0
     go true = refl
@@ -104,7 +104,7 @@ module _ (bytes : List ℕ) where
 
   pub report-head-number : (room : ℕ) → writtenNumber (headAnswer bytes room) ≡ ofFile (first (ltb room (length (headText (file.headOf bytes)))) 5 0)
   unfolding headAnswer
-  report-head-number room = of-head (λ head. lentAnswer (headText head) room) _ (lent-number (headText (file.headOf bytes)) room)
+  report-head-number room = of-head (λ head. lentAnswer (headText head) room) _ (lay-number (headText (file.headOf bytes)) room)
 
   pub report-line-number : (number room : ℕ)
       → writtenNumber (lineAnswer bytes number room)
@@ -117,5 +117,5 @@ module _ (bytes : List ℕ) where
       text = lineText (pos number) (file.recordAt bytes number)
 
       go : (t : Bool) → writtenNumber (cond t (lentAnswer text room) (written.Refused 4)) ≡ first (not t) 4 (first (ltb room (length text)) 5 0)
-      go true = lent-number text room
+      go true = lay-number text room
       go false = refl
