@@ -11,14 +11,15 @@ use lib.ListN.{getD}
 use lib.Signed.{ltZ, shrZ}
 use mir.Syntax.{w32}
 use mir.Val.{toZ, ofZ}
+use Rattle.whole.specs.Numbers.{fitsI16}
 use Rattle.whole.specs.Signed.{signed, holds}
 use Rattle.whole.specs.Truth.{left-of, right-of, either-of, lies-low, lies-high, five-of}
-use Rattle.whole.specs.Interval.{Within, within-more, is-within, read-within}
+use Rattle.whole.specs.Interval.{Within, within-more, is-within, read-within, i16-within}
 use Rattle.limits.specs.Limits.{same, isBlock, shiftedBy}
 use Rattle.records.specs.declared.Offset.{Offset}
 use Rattle.records.specs.declared.Pair.{Pair}
 use Rattle.records.specs.declared.Record.{Record}
-use Rattle.records.specs.Packing.{partFits, pairFits}
+use Rattle.records.specs.Packing.{pairFits}
 use Rattle.window.specs.Windows.{isNegative}
 use Rattle.distance.specs.Distance.{Block, blockOf}
 use Rattle.plane.specs.declared.Place.{Place}
@@ -84,14 +85,11 @@ halved-or-not true = at-each-block (λ x y. Sized (natAbs (shrZ x 2)) (natAbs (s
 halved-or-not false = at-each-block (λ x y. Sized (natAbs x) (natAbs y)) (sized 2 2 tt tt tt tt refl) (sized 4 2 tt tt tt tt refl) (sized 4 4 tt tt tt tt refl)
 
 -- ---- parts that fit i16
-part-within : (z : ℤ) → partFits z ≡ true → Within 32768 32767 z
-part-within z e = let low = lies-low (negsuc 32767) (pos 32767) z e in let high = lies-high (negsuc 32767) (pos 32767) z e in omega signed
-
 first-within : (p : Pair) → pairFits p ≡ true → Within 32768 32767 (p .first)
-first-within p e = part-within (p .first) (left-of (partFits (p .first)) (partFits (p .second)) e)
+first-within p e = i16-within (p .first) (left-of (fitsI16 (p .first)) (fitsI16 (p .second)) e)
 
 second-within : (p : Pair) → pairFits p ≡ true → Within 32768 32767 (p .second)
-second-within p e = part-within (p .second) (right-of (partFits (p .first)) (partFits (p .second)) e)
+second-within p e = i16-within (p .second) (right-of (fitsI16 (p .first)) (fitsI16 (p .second)) e)
 
 -- ---- what the machine reads of a number from 0 to 65536, which a pitch is, and a side
 abbrev pub Counts : ℤ → Type 0

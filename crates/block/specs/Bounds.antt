@@ -8,25 +8,17 @@ use lib.Signed.{ltZ, shrZ}
 use Rattle.whole.specs.Numbers.{lesserOf, greaterOf}
 use Rattle.whole.specs.Signed.{P, N, signed, diff-is}
 use Rattle.whole.specs.Interval.{Within, within-literal, within-more, within-either, within-shr, within-sub}
-use Rattle.limits.specs.Limits.{shiftedBy}
+use Rattle.limits.specs.Limits.{shiftedBy, radiusOf}
 use Rattle.axis.specs.declared.Axis.{Axis}
 use Rattle.axis.specs.Axis.{excessOf, placeOf}
 use Rattle.axis.specs.Bounds.{Bounded}
-use Rattle.block.specs.declared.Search.{Search}
 use Rattle.block.specs.declared.Sides.{Sides}
 use Rattle.block.specs.declared.Shape.{Shape}
-use Rattle.block.specs.Shapes.{radiusOf, chromaPlace, spotOf}
+use Rattle.block.specs.Shapes.{chromaPlace, spotOf}
 use Rattle.block.specs.Asked.{Held}
 
 pub within-shifted : {l h : ℕ} {z : ℤ} (s : ℤ) → Within l h z → Within l h (shiftedBy z s)
 within-shifted s p = within-either (ltZ s (pos 1)) p (within-shr 2 p)
-
-pub within-radius : (q : Search) → Within 3 3 (q .«search_param») → Within 0 3 (radiusOf q)
-within-radius q w = by (ltZ (q .«search_param») (pos 0)) refl
-  where
-    by : (t : Bool) → ltZ (q .«search_param») (pos 0) ≡ t → Within 0 3 (cond t (pos 0 -ℤ q .«search_param») (q .«search_param»))
-    by true e = let low = w .low in let high = w .high in omega (signed, diff-is (pos 0) (q .«search_param»))
-    by false e = let low = w .low in let high = w .high in omega signed
 
 -- a place is clamped between 0 and what the frame leaves
 module _ {a : Axis} (b : Bounded a) where

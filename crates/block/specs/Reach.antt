@@ -8,11 +8,12 @@ use native.Mathlib.Omega.{arith}
 use lib.IntN.{ℤ, pos, negsuc, _+ℤ_, _-ℤ_, _*ℤ_}
 use lib.Dec.{lit<}
 use lib.Signed.{ltZ, shrZ, _≤ℤ_, _<ℤ_}
+use Rattle.limits.specs.Ranges.{radius-within}
 use Rattle.whole.specs.Numbers.{lesserOf, greaterOf}
 use Rattle.whole.specs.Signed.{P, N, signed, add-is, diff-is, times-is}
 use Rattle.whole.specs.Floor.{floor-low, floor-high}
 use Rattle.whole.specs.Interval.{Within, within-more}
-use Rattle.limits.specs.Limits.{shiftedBy}
+use Rattle.limits.specs.Limits.{shiftedBy, radiusOf}
 use Rattle.plane.specs.declared.Place.{Place}
 use Rattle.plane.specs.Places.{lastEnd, pel1Of, Placed}
 use Rattle.axis.specs.declared.Axis.{Axis}
@@ -24,9 +25,8 @@ use Rattle.block.specs.declared.Settings.{Settings}
 use Rattle.block.specs.declared.Block.{Block}
 use Rattle.block.specs.declared.Shape.{Shape}
 use Rattle.block.specs.declared.Spot.{Spot}
-use Rattle.block.specs.Shapes.{originOf, sideOf, axisOf, negativeOf, radiusOf, shapeOf, movesOf, chromaPlace, spotOf}
+use Rattle.block.specs.Shapes.{originOf, sideOf, axisOf, negativeOf, shapeOf, movesOf, chromaPlace, spotOf}
 use Rattle.block.specs.Asked.{Addressed, Shaped, SpotHeld, Along, Lies, Ready}
-use Rattle.block.specs.Bounds.{within-radius}
 
 -- ---- one axis: from `at` for `side` lies inside the frame
 pub record Inside (frame at side : ℤ) : Type 0 where
@@ -162,7 +162,7 @@ module _ {s : Settings} {b : Block} (k : Ready s b) where
   unfolding shapeOf axisOf
   down-inside = origin-inside (k .down) (negativeOf (s .level) (s .grid) b)
 
-  bounded-by : {a : Axis} → Stands a → a .pel ≡ s .level .pel → Within 32768 32767 (a .predictor) → a .radius ≡ radiusOf (s .search) → Bounded a
+  bounded-by : {a : Axis} → Stands a → a .pel ≡ s .level .pel → Within 32768 32767 (a .predictor) → a .radius ≡ radiusOf (s .search .«search_param») → Bounded a
   bounded-by {a} i e w f =
       let t = add-is (a .origin) (a .side) in
       let from = i .from in
@@ -176,7 +176,7 @@ module _ {s : Settings} {b : Block} (k : Ready s b) where
         origin = omega (signed, t);
         side = omega signed;
         predictor = w;
-        radius = subst (Within 0 3) (sym f) (within-radius (s .search) (k .search));
+        radius = subst (Within 0 3) (sym f) (radius-within (k .search));
       }
 
   pub across-bounded : Bounded (shapeOf s b .across)

@@ -3,12 +3,11 @@ use mathlib.Core.Bool.{Bool, _&&_, _||_, not, cond}
 use lib.IntN.{ℤ, pos, _+ℤ_, _-ℤ_, _*ℤ_}
 use lib.Signed.{ltZ, leZ, shrZ}
 use Rattle.whole.specs.Numbers.{liesIn}
-use Rattle.limits.specs.Limits.{shiftedBy}
+use Rattle.limits.specs.Limits.{shiftedBy, radiusOf}
 use Rattle.records.specs.Lambda.{quarterOf, thirdOf}
 use Rattle.axis.specs.declared.Axis.{Axis}
 use Rattle.axis.specs.Axis.{excessOf, placeOf}
 use Rattle.block.specs.declared.Sides.{Sides}
-use Rattle.block.specs.declared.Search.{Search}
 use Rattle.block.specs.declared.Weights.{Weights}
 use Rattle.block.specs.declared.Level.{Level}
 use Rattle.block.specs.declared.Settings.{Settings}
@@ -34,15 +33,11 @@ unfoldable pub axisOf : ℤ → ℤ → ℤ → ℤ → ℤ → ℤ → ℤ → 
 axisOf pel frame step side place predictor radius negative =
     record { pel = pel; frame = frame; origin = originOf step side place negative; side = sideOf side negative; predictor = predictor; radius = radius }
 
--- 01, "Numbers accepted": "Radius is the absolute value of `search_param`."
-abbrev pub radiusOf : Search → ℤ
-radiusOf search = cond (ltZ (search .«search_param») (pos 0)) (pos 0 -ℤ search .«search_param») (search .«search_param»)
-
 -- the block's two axes. Frame sides are the source luma's.
 unfoldable pub shapeOf : Settings → Block → Shape
 shapeOf s b =
     let negative = negativeOf (s .level) (s .grid) b in
-    let radius = radiusOf (s .search) in
+    let radius = radiusOf (s .search .«search_param») in
     record {
       across = axisOf (s .level .pel) (s .planes .luma .width) (s .step .x) (s .block .x) (b .x) (b .px) radius negative;
       down = axisOf (s .level .pel) (s .planes .luma .height) (s .step .y) (s .block .y) (b .y) (b .py) radius negative;

@@ -11,7 +11,7 @@ ghost use mathlib.Core.Bool.{false};
 ghost use Rattle.whole.specs.Interval.{Within};
 ghost use Rattle.plane.specs.Places.{pel1Of};
 ghost use Rattle.axis.specs.Bounds.{Bounded};
-ghost use Rattle.block.specs.Shapes.{rimOf, negativeOf, axisOf, radiusOf, shapeOf, lambdaOf, isBad, movesOf, chromaPlace, spotOf};
+ghost use Rattle.block.specs.Shapes.{rimOf, negativeOf, axisOf, shapeOf, lambdaOf, isBad, movesOf, chromaPlace, spotOf};
 ghost use Rattle.block.specs.Steps.{filledWith, settledAt, flagsOf, quietRecord, scaledPair, badRecord, badStep, lumaStep, quietStep, stepOf};
 ghost use Rattle.block.specs.Asked.{Addressed, Shaped, SpotHeld, Held, Ready};
 
@@ -142,17 +142,6 @@ fn axis_of(
     }
 }
 
-pub fn radius_of(search: Search) -> i32
-    requires { ⌜ Within 3 3 (search .«search_param») ⌝ }
-    ensures { λ r. ⌜ r ≡ radiusOf search ⌝ }
-{
-    let search_param = search.search_param;
-    if search_param < 0 {
-        return 0 - search_param;
-    }
-    search_param
-}
-
 fn shape_of(s: Settings, block: Block) -> Shape
     requires { ⌜ Shaped s block ⌝ }
     ensures { λ r. ⌜ r ≡ shapeOf s block ⌝ }
@@ -161,7 +150,8 @@ fn shape_of(s: Settings, block: Block) -> Shape
     let grid = s.grid;
     let search = s.search;
     let negative = is_negative(level, grid, block);
-    let radius = radius_of(search);
+    let search_param = search.search_param;
+    let radius = limits::radius_of(search_param);
     let pel = level.pel;
     let planes = s.planes;
     let luma = planes.luma;

@@ -6,25 +6,32 @@ use Prim.Native.Nat.{ℕ, _+_, _*_, _≤_, _<_}
 use native.Mathlib.Nat.{mul-le-mul, le-refl}
 use native.Mathlib.Numerals.{add-one}
 use native.Mathlib.Omega.{arith}
-use lib.IntN.{ℤ, pos, _+ℤ_}
-use lib.Dec.{eqb}
+use lib.IntN.{ℤ, pos, _+ℤ_, _-ℤ_, natAbs}
 use lib.Signed.{leZ}
-use borrow.Author.Tests.{eqb-false}
 use Rattle.whole.specs.Numbers.{liesIn}
+use Rattle.whole.specs.Signed.{add-is, diff-is, abs-is}
+use Rattle.whole.specs.Interval.{Within}
 use Rattle.choosing.specs.declared.Choice.{Choice}
-use Rattle.choosing.specs.Choosing.{Walk, columnsOf, rowsOf, lumaColumn, lumaOf, chromaOf, farOf, nearOf, fullOf, advanced, restarted, taken, candidate, alongRow, alongRows, plainSad, start}
+use Rattle.choosing.specs.Choosing.{Walk, countOf, columnsOf, rowsOf, lumaColumn, lumaOf, chromaOf, afterDistance, afterLuma, afterChroma, advanced, restarted, taken, candidate, alongRow, alongRows, plainSad, start}
 use Rattle.choosing.specs.Bounds.{Served}
 
--- ---- a window with rows to walk has at most 7 of them, and 7 columns
-some : (n : ℕ) → (n ≡ 0 → ⊥) → 0 < n
-some n h = omega arith
+-- ---- a window's sides: counts of i16 numbers, and at most 7 where both are walked
+by-order : (t : Bool) {least greatest : ℤ} → Within 32768 32767 least → Within 32768 32767 greatest → cond t (natAbs (greatest -ℤ least +ℤ pos 1)) 0 ≤ 65536
+by-order true {least} {greatest} p q =
+    let span = greatest -ℤ least in
+    let a = p .low in
+    let b = p .high in
+    let c = q .low in
+    let d = q .high in
+    omega (arith, diff-is greatest least, add-is span (pos 1), abs-is (span +ℤ pos 1))
+by-order false p q = omega arith
 
-by-columns : (t : Bool) (w h : ℕ) → eqb w 0 ≡ t → (0 < w → 0 < h → w ≤ 7) → (0 < w → 0 < h → h ≤ 7) → 0 < cond t 0 h → (w ≤ 7) × (cond t 0 h ≤ 7)
-by-columns true w h e narrow low walked = absurd (omega arith)
-by-columns false w h e narrow low walked = let columns = some w (eqb-false w 0 e) in (narrow columns walked, low columns walked)
+pub count-most : {least greatest : ℤ} → Within 32768 32767 least → Within 32768 32767 greatest → countOf least greatest ≤ 65536
+unfolding countOf
+count-most {least} {greatest} p q = by-order (leZ least greatest) p q
 
-pub at-most-7 : {k : Choice} → Served k → 0 < rowsOf k → (columnsOf k ≤ 7) × (rowsOf k ≤ 7)
-at-most-7 {k} s walked = by-columns (eqb (columnsOf k) 0) (columnsOf k) _ refl (s .narrow) (s .low) walked
+pub at-most-7 : {k : Choice} → Served k → 0 < columnsOf k → 0 < rowsOf k → (columnsOf k ≤ 7) × (rowsOf k ≤ 7)
+at-most-7 s columns rows = (s .narrow columns rows, s .low columns rows)
 
 -- ---- a candidate's slot is in the table, and so is that of its luma
 pub slot-in : (w j n : ℕ) → w ≤ 7 → j < 7 → n < w → 1 + j * w + n < 50
@@ -70,7 +77,7 @@ module _ (k : Choice) (luma chroma : List ℕ) (j : ℕ) where
   -- the state that a candidate leaves which is taken
   abbrev pub candidateAt : ℕ → Walk → Walk
   candidateAt i s =
-      walk (k .«least_x» +ℤ pos i) (k .«least_y» +ℤ pos j) (pos (lumaOf k luma j i (s .column) + chromaOf k chroma j i)) (fullOf k luma chroma j i (s .column)) (s .column + 1)
+      walk (k .«least_x» +ℤ pos i) (k .«least_y» +ℤ pos j) (pos (lumaOf k luma j i (s .column) + chromaOf k chroma j i)) (afterChroma k luma chroma j i (s .column)) (s .column + 1)
 
   taken-is : (i : ℕ) (s : Walk) → candidateAt i s ≡ taken k luma chroma j i s
   unfolding taken
@@ -81,20 +88,20 @@ module _ (k : Choice) (luma chroma : List ℕ) (j : ℕ) where
     step : alongRow k luma chroma j (i + 1) from ≡ candidate k luma chroma j i s
     step = next i from ∙ ap (candidate k luma chroma j i) (sym so-far)
 
-    pub too-far : leZ (s .least) (farOf k j i) ≡ true → s ≡ alongRow k luma chroma j (i + 1) from
+    pub too-far : leZ (s .least) (afterDistance k j i) ≡ true → s ≡ alongRow k luma chroma j (i + 1) from
     unfolding candidate
     too-far t = sym (step ∙ simp t)
 
-    module _ (a : leZ (s .least) (farOf k j i) ≡ false) where
-      pub luma-over : leZ (s .least) (nearOf k luma j i (s .column)) ≡ true → advanced s ≡ alongRow k luma chroma j (i + 1) from
+    module _ (a : leZ (s .least) (afterDistance k j i) ≡ false) where
+      pub luma-over : leZ (s .least) (afterLuma k luma j i (s .column)) ≡ true → advanced s ≡ alongRow k luma chroma j (i + 1) from
       unfolding candidate
       luma-over t = sym (step ∙ simp (a, t))
 
-      module _ (b : leZ (s .least) (nearOf k luma j i (s .column)) ≡ false) where
-        pub chroma-over : leZ (s .least) (fullOf k luma chroma j i (s .column)) ≡ true → advanced s ≡ alongRow k luma chroma j (i + 1) from
+      module _ (b : leZ (s .least) (afterLuma k luma j i (s .column)) ≡ false) where
+        pub chroma-over : leZ (s .least) (afterChroma k luma chroma j i (s .column)) ≡ true → advanced s ≡ alongRow k luma chroma j (i + 1) from
         unfolding candidate
         chroma-over t = sym (step ∙ simp (a, b, t))
 
-        pub better : leZ (s .least) (fullOf k luma chroma j i (s .column)) ≡ false → candidateAt i s ≡ alongRow k luma chroma j (i + 1) from
+        pub better : leZ (s .least) (afterChroma k luma chroma j i (s .column)) ≡ false → candidateAt i s ≡ alongRow k luma chroma j (i + 1) from
         unfolding candidate
         better t = taken-is i s ∙ sym (step ∙ simp (a, b, t))

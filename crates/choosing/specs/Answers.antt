@@ -7,16 +7,14 @@ use mathlib.Core.Logic.{_⊎_, inl, inr, ⊎-elim}
 use Prim.Native.Nat.{ℕ, zero, suc, _+_, _<_, _≤_}
 use native.Mathlib.Nat.{le-refl}
 use native.Mathlib.Omega.{arith}
-use lib.Dec.{eqb}
 use lib.IntN.{ℤ, pos, _+ℤ_, _-ℤ_, natAbs}
 use lib.ListN.{getD}
 use lib.Signed.{leZ, _≤ℤ_}
-use borrow.Author.Tests.{eq-eqb}
 use Rattle.whole.specs.Signed.{signed, add-is, diff-is, abs-is}
 use Rattle.whole.specs.Interval.{Within}
 use Rattle.choosing.specs.declared.Choice.{Choice}
 use Rattle.choosing.specs.declared.Chosen.{Chosen}
-use Rattle.choosing.specs.Choosing.{Walk, countOf, columnsOf, rowsOf, slotOf, lumaColumn, lumaOf, chromaOf, farOf, nearOf, fullOf, advanced, restarted, taken, candidate, alongRow, alongRows, plainSad, start, answerOf, chosen, kept, selected}
+use Rattle.choosing.specs.Choosing.{Walk, countOf, columnsOf, rowsOf, slotOf, lumaColumn, lumaOf, chromaOf, afterDistance, afterLuma, afterChroma, advanced, restarted, taken, candidate, alongRow, alongRows, plainSad, start, answerOf, chosen, predictorWith, selected}
 use Rattle.choosing.specs.Bounds.{Small, Ranged}
 
 by-test : (t : Bool) (a b : Walk) (Q : Walk → Type 0) → (t ≡ true → Q a) → (t ≡ false → Q b) → Q (cond t a b)
@@ -27,12 +25,12 @@ module _ (k : Choice) (luma chroma : List ℕ) where
   -- ---- a candidate has four ways out: by each of the three tests, and taken
   module _ (j i : ℕ) (s : Walk) (Q : Walk → Type 0) where
     pub by-candidate :
-        (leZ (s .least) (farOf k j i) ≡ true → Q s) →
-        (leZ (s .least) (farOf k j i) ≡ false → leZ (s .least) (nearOf k luma j i (s .column)) ≡ true → Q (advanced s)) →
-        (leZ (s .least) (farOf k j i) ≡ false → leZ (s .least) (nearOf k luma j i (s .column)) ≡ false →
-        leZ (s .least) (fullOf k luma chroma j i (s .column)) ≡ true → Q (advanced s)) →
-        (leZ (s .least) (farOf k j i) ≡ false → leZ (s .least) (nearOf k luma j i (s .column)) ≡ false →
-        leZ (s .least) (fullOf k luma chroma j i (s .column)) ≡ false → Q (taken k luma chroma j i s)) →
+        (leZ (s .least) (afterDistance k j i) ≡ true → Q s) →
+        (leZ (s .least) (afterDistance k j i) ≡ false → leZ (s .least) (afterLuma k luma j i (s .column)) ≡ true → Q (advanced s)) →
+        (leZ (s .least) (afterDistance k j i) ≡ false → leZ (s .least) (afterLuma k luma j i (s .column)) ≡ false →
+        leZ (s .least) (afterChroma k luma chroma j i (s .column)) ≡ true → Q (advanced s)) →
+        (leZ (s .least) (afterDistance k j i) ≡ false → leZ (s .least) (afterLuma k luma j i (s .column)) ≡ false →
+        leZ (s .least) (afterChroma k luma chroma j i (s .column)) ≡ false → Q (taken k luma chroma j i s)) →
         Q (candidate k luma chroma j i s)
     unfolding candidate
     by-candidate far near full take =
@@ -56,29 +54,23 @@ module _ (k : Choice) (luma chroma : List ℕ) where
     kept-walk q = kept-rows (rowsOf k) (start k luma chroma) (le-refl (rowsOf k)) q
 
   -- ---- "An empty window keeps the predictor.", with its plain SAD, whichever side is empty
-  no-walk : answerOf (alongRows k luma chroma 0 (start k luma chroma)) ≡ kept k (plainSad k luma chroma)
+  no-walk : answerOf (alongRows k luma chroma 0 (start k luma chroma)) ≡ predictorWith k (plainSad k luma chroma)
   unfolding answerOf alongRows start
   no-walk = refl
 
-  empty : rowsOf k ≡ 0 → chosen k luma chroma ≡ kept k (plainSad k luma chroma)
+  pub empty-rows : rowsOf k ≡ 0 → chosen k luma chroma ≡ predictorWith k (plainSad k luma chroma)
   unfolding chosen
-  empty e = ap (λ (n : ℕ). answerOf (alongRows k luma chroma n (start k luma chroma))) e ∙ no-walk
+  empty-rows e = ap (λ (n : ℕ). answerOf (alongRows k luma chroma n (start k luma chroma))) e ∙ no-walk
 
-  pub empty-columns : countOf (k .«least_x») (k .«greatest_x») ≡ 0 → chosen k luma chroma ≡ kept k (plainSad k luma chroma)
-  empty-columns e = let none : eqb (columnsOf k) 0 ≡ true = eq-eqb (columnsOf k) 0 e in empty (simp none)
-
-  either-none : (t : Bool) (n : ℕ) → n ≡ 0 → cond t 0 n ≡ 0
-  either-none true n e = refl
-  either-none false n e = e
-
-  pub empty-rows : countOf (k .«least_y») (k .«greatest_y») ≡ 0 → chosen k luma chroma ≡ kept k (plainSad k luma chroma)
-  empty-rows e = empty (either-none (eqb (columnsOf k) 0) _ e)
+  pub empty-columns : columnsOf k ≡ 0 → chosen k luma chroma ≡ predictorWith k (plainSad k luma chroma)
+  unfolding chosen answerOf restarted start
+  empty-columns e = kept-walk (λ s. answerOf s ≡ predictorWith k (plainSad k luma chroma)) (λ j i s a b q. absurd (omega arith)) (λ s q. q) refl
 
   -- ---- a tie keeps the earlier vector, its SAD and the least cost
   abbrev Same : Walk → Walk → Type 0
   Same s t = (t .x ≡ s .x) × (t .y ≡ s .y) × (t .sad ≡ s .sad) × (t .least ≡ s .least)
 
-  pub tie : (j i : ℕ) (s : Walk) → s .least ≤ℤ fullOf k luma chroma j i (s .column) → Same s (candidate k luma chroma j i s)
+  pub tie : (j i : ℕ) (s : Walk) → s .least ≤ℤ afterChroma k luma chroma j i (s .column) → Same s (candidate k luma chroma j i s)
   unfolding advanced
   tie j i s e =
       by-candidate j i s (Same s)
@@ -139,10 +131,6 @@ pub counted-between : (least greatest : ℤ) (n : ℕ) → n < countOf least gre
 unfolding countOf
 counted-between least greatest n h = by-order (leZ least greatest) least greatest n refl h
 
-pub rows-counted : (t : Bool) (n j : ℕ) → j < cond t 0 n → j < n
-rows-counted true n j h = absurd (omega arith)
-rows-counted false n j h = h
-
 between : (least greatest : ℤ) {z : ℤ} (n : ℕ) → Within 32768 32767 least → Within 32768 32767 greatest → z ≡ least +ℤ pos n → n < countOf least greatest → Within 32768 32767 z
 between least greatest n a b e h = let reach = counted-between least greatest n h in omega (signed, reach .0, reach .1)
 
@@ -157,7 +145,7 @@ chosen-ranged k luma chroma r =
     (λ own. record { x = rw (own .0) (r .x); y = rw (own .1) (r .y) })
     (λ q. record {
       x = between (k .«least_x») (k .«greatest_x») (q .i) (r .least-x) (r .greatest-x) (q .x-is) (q .in-columns);
-      y = between (k .«least_y») (k .«greatest_y») (q .j) (r .least-y) (r .greatest-y) (q .y-is) (rows-counted (eqb (columnsOf k) 0) _ (q .j) (q .in-rows));
+      y = between (k .«least_y») (k .«greatest_y») (q .j) (r .least-y) (r .greatest-y) (q .y-is) (q .in-rows);
     })
     (known k luma chroma)
 

@@ -4,7 +4,6 @@
 use mathlib.Core.Bool.{Bool, cond}
 use mathlib.Core.List.{List}
 use Prim.Native.Nat.{ℕ, zero, suc, _+_, _*_}
-use lib.Dec.{eqb}
 use lib.IntN.{ℤ, pos, _+ℤ_, _-ℤ_, _*ℤ_, natAbs}
 use lib.ListN.{getD}
 use lib.Signed.{leZ, shrZ}
@@ -21,9 +20,8 @@ countOf least greatest = cond (leZ least greatest) (natAbs (greatest -ℤ least 
 abbrev pub columnsOf : Choice → ℕ
 columnsOf k = countOf (k .«least_x») (k .«greatest_x»)
 
--- a window without columns is empty: it has no rows to walk
 abbrev pub rowsOf : Choice → ℕ
-rowsOf k = cond (eqb (columnsOf k) 0) 0 (countOf (k .«least_y») (k .«greatest_y»))
+rowsOf k = countOf (k .«least_y») (k .«greatest_y»)
 
 -- where a table holds the candidate in column i of row j
 unfoldable pub slotOf : Choice → ℕ → ℕ → ℕ
@@ -73,15 +71,15 @@ lumaOf k luma j i column = getD luma (slotOf k j (lumaColumn k column i)) 0
 unfoldable pub chromaOf : Choice → List ℕ → ℕ → ℕ → ℕ
 chromaOf k chroma j i = getD chroma (slotOf k j i) 0
 
-unfoldable pub farOf : Choice → ℕ → ℕ → ℤ
-farOf k j i = distanceCost k (k .«least_x» +ℤ pos i) (k .«least_y» +ℤ pos j)
+unfoldable pub afterDistance : Choice → ℕ → ℕ → ℤ
+afterDistance k j i = distanceCost k (k .«least_x» +ℤ pos i) (k .«least_y» +ℤ pos j)
 
-unfoldable pub nearOf : Choice → List ℕ → ℕ → ℕ → ℕ → ℤ
-nearOf k luma j i column = withPenalty k (farOf k j i) (lumaOf k luma j i column)
+unfoldable pub afterLuma : Choice → List ℕ → ℕ → ℕ → ℕ → ℤ
+afterLuma k luma j i column = withPenalty k (afterDistance k j i) (lumaOf k luma j i column)
 
 module _ (k : Choice) (luma chroma : List ℕ) where
-  unfoldable pub fullOf : ℕ → ℕ → ℕ → ℤ
-  fullOf j i column = withPenalty k (nearOf k luma j i column) (chromaOf k chroma j i)
+  unfoldable pub afterChroma : ℕ → ℕ → ℕ → ℤ
+  afterChroma j i column = withPenalty k (afterLuma k luma j i column) (chromaOf k chroma j i)
 
   -- "The SAD answered is the chosen vector's plain luma SAD plus chroma's scaled one, as the tests took them, with neither distance nor
   -- pnew's part."
@@ -91,16 +89,16 @@ module _ (k : Choice) (luma chroma : List ℕ) where
         x = k .«least_x» +ℤ pos i;
         y = k .«least_y» +ℤ pos j;
         sad = pos (lumaOf k luma j i (s .column) + chromaOf k chroma j i);
-        least = fullOf j i (s .column);
+        least = afterChroma j i (s .column);
         column = s .column + 1;
       }
 
   -- "A candidate that fails a test is dropped at once and the walk goes on with the next; a test fails at cost equal to the least."
   unfoldable pub candidate : ℕ → ℕ → Walk → Walk
   candidate j i s =
-      cond (leZ (s .least) (farOf k j i)) s
-      (cond (leZ (s .least) (nearOf k luma j i (s .column))) (advanced s)
-      (cond (leZ (s .least) (fullOf j i (s .column))) (advanced s) (taken j i s)))
+      cond (leZ (s .least) (afterDistance k j i)) s
+      (cond (leZ (s .least) (afterLuma k luma j i (s .column))) (advanced s)
+      (cond (leZ (s .least) (afterChroma j i (s .column))) (advanced s) (taken j i s)))
 
   -- after the first n candidates of row j, and after the first n rows
   unfoldable pub alongRow : ℕ → ℕ → Walk → Walk
@@ -122,8 +120,8 @@ module _ (k : Choice) (luma chroma : List ℕ) where
   chosen = answerOf (alongRows (rowsOf k) start)
 
 -- ---- "A block that isn't bad answers its predictor and SAD."
-abbrev pub kept : Choice → ℤ → Chosen
-kept k sad = record { x = k .x; y = k .y; sad = sad }
+abbrev pub predictorWith : Choice → ℤ → Chosen
+predictorWith k sad = record { x = k .x; y = k .y; sad = sad }
 
 -- "A negative block's SAD is tripled, wrapping.", whether it is bad or not
 unfoldable pub tripledOf : Bool → ℤ → ℤ
@@ -133,4 +131,4 @@ abbrev pub withTripled : Bool → Chosen → Chosen
 withTripled negative best = record { x = best .x; y = best .y; sad = tripledOf negative (best .sad) }
 
 unfoldable pub selected : Choice → Bool → Bool → ℤ → List ℕ → List ℕ → Chosen
-selected k bad negative sad luma chroma = withTripled negative (cond bad (chosen k luma chroma) (kept k sad))
+selected k bad negative sad luma chroma = withTripled negative (cond bad (chosen k luma chroma) (predictorWith k sad))

@@ -7,7 +7,7 @@ use Prim.Native.Nat.{ℕ}
 use lib.IntN.{ℤ, pos, negsuc}
 use Rattle.choosing.specs.declared.Choice.{Choice}
 use Rattle.choosing.specs.declared.Chosen.{Chosen}
-use Rattle.choosing.specs.Choosing.{countOf, slotOf, distanceCost, penaltyOf, withPenalty, lumaColumn, lumaOf, chromaOf, farOf, nearOf, fullOf, advanced, restarted, taken, candidate, alongRow, alongRows, start, answerOf, chosen, tripledOf, selected}
+use Rattle.choosing.specs.Choosing.{countOf, slotOf, distanceCost, penaltyOf, withPenalty, lumaColumn, lumaOf, chromaOf, afterDistance, afterLuma, afterChroma, advanced, restarted, taken, candidate, alongRow, alongRows, start, answerOf, chosen, tripledOf, selected}
 
 abbrev at : ℤ → ℤ → ℤ → Chosen
 at x y sad = record { x = x; y = y; sad = sad }
@@ -22,17 +22,17 @@ abbrev lumas : List ℕ
 lumas = 50 ∷ 1 ∷ 2 ∷ 3 ∷ 7 ∷ 90 ∷ 4 ∷ 5 ∷ 6 ∷ 8 ∷ []
 
 -- a step away costs 100, which is over 50: only (0,0) passes the distance test, and at pel 1 it takes the 7
-pub step-away : (farOf (around (pos 1)) 1 0 ≡ pos 100) × (farOf (around (pos 1)) 1 1 ≡ pos 0)
-unfolding farOf distanceCost
+pub step-away : (afterDistance (around (pos 1)) 1 0 ≡ pos 100) × (afterDistance (around (pos 1)) 1 1 ≡ pos 0)
+unfolding afterDistance distanceCost
 step-away = (refl, refl)
 
 pub at-pel-1 : chosen (around (pos 1)) lumas [] ≡ at (pos 0) (pos 0) (pos 7)
-unfolding countOf slotOf distanceCost penaltyOf withPenalty lumaColumn lumaOf chromaOf farOf nearOf fullOf advanced restarted taken candidate alongRow alongRows start answerOf chosen
+unfolding countOf slotOf distanceCost penaltyOf withPenalty lumaColumn lumaOf chromaOf afterDistance afterLuma afterChroma advanced restarted taken candidate alongRow alongRows start answerOf chosen
 at-pel-1 = refl
 
 -- at pel 2 it takes its own 90, and the predictor is kept
 pub at-pel-2 : chosen (around (pos 2)) lumas [] ≡ at (pos 0) (pos 0) (pos 50)
-unfolding countOf slotOf distanceCost penaltyOf withPenalty lumaColumn lumaOf chromaOf farOf nearOf fullOf advanced restarted taken candidate alongRow alongRows start answerOf chosen
+unfolding countOf slotOf distanceCost penaltyOf withPenalty lumaColumn lumaOf chromaOf afterDistance afterLuma afterChroma advanced restarted taken candidate alongRow alongRows start answerOf chosen
 at-pel-2 = refl
 
 -- "a test fails at cost equal to the least": at the luma test this shows only where chroma's penalty wraps below 0. pnew 2^28, lambda 0,
@@ -46,12 +46,12 @@ unfolding penaltyOf
 wraps-below = refl
 
 pub tie-at-luma : chosen alone (16 ∷ 16 ∷ []) (0 ∷ 8 ∷ []) ≡ at (pos 0) (pos 0) (pos 16)
-unfolding countOf slotOf distanceCost penaltyOf withPenalty lumaColumn lumaOf chromaOf farOf nearOf fullOf advanced restarted taken candidate alongRow alongRows start answerOf chosen
+unfolding countOf slotOf distanceCost penaltyOf withPenalty lumaColumn lumaOf chromaOf afterDistance afterLuma afterChroma advanced restarted taken candidate alongRow alongRows start answerOf chosen
 tie-at-luma = refl
 
 -- with a least cost of 17 the same candidate goes on, and is taken
 pub below-at-luma : chosen alone (17 ∷ 16 ∷ []) (0 ∷ 8 ∷ []) ≡ at (pos 1) (pos 0) (pos 24)
-unfolding countOf slotOf distanceCost penaltyOf withPenalty lumaColumn lumaOf chromaOf farOf nearOf fullOf advanced restarted taken candidate alongRow alongRows start answerOf chosen
+unfolding countOf slotOf distanceCost penaltyOf withPenalty lumaColumn lumaOf chromaOf afterDistance afterLuma afterChroma advanced restarted taken candidate alongRow alongRows start answerOf chosen
 below-at-luma = refl
 
 -- "A negative block's SAD is tripled, wrapping.": here of a block that isn't bad

@@ -55,14 +55,10 @@ pub fn columns_of(choice: Choice) -> usize
     count(least, greatest)
 }
 
-// Without columns there are up to 65,536 rows, and nothing in them.
-pub fn rows_of(choice: Choice, columns: usize) -> usize
-    requires { ⌜ Ranged choice × (columns ≡ columnsOf choice) ⌝ }
+pub fn rows_of(choice: Choice) -> usize
+    requires { ⌜ Ranged choice ⌝ }
     ensures { λ r. ⌜ r ≡ rowsOf choice ⌝ }
 {
-    if columns == 0 {
-        return 0;
-    }
     let least = choice.least_y;
     let greatest = choice.greatest_y;
     count(least, greatest)
@@ -134,7 +130,7 @@ pub fn choose(choice: Choice, luma: &[u32; 50], chroma: &[u32; 50]) -> Chosen
     ensures { λ r. ⌜ r ≡ chosen choice (now (luma .entry)) (now (chroma .entry)) ⌝ }
 {
     let columns = columns_of(choice);
-    let rows = rows_of(choice, columns);
+    let rows = rows_of(choice);
     let mut x = choice.x;
     let mut y = choice.y;
     let mut sad = plain_sad(luma[0], chroma[0]);
@@ -145,26 +141,26 @@ pub fn choose(choice: Choice, luma: &[u32; 50], chroma: &[u32; 50]) -> Chosen
         let mut column: usize = 0;
         'columns: for i in 0..columns {
             let vx = x_at(choice, i);
-            let far = distance_cost(choice, vx, vy);
-            if far >= least {
+            let after_distance = distance_cost(choice, vx, vy);
+            if after_distance >= least {
                 continue 'columns;
             }
             let at = luma_column(choice, column, i);
             column += 1;
             let l = luma[row + at];
-            let near = with_penalty(choice, far, l);
-            if near >= least {
+            let after_luma = with_penalty(choice, after_distance, l);
+            if after_luma >= least {
                 continue 'columns;
             }
             let c = chroma[row + i];
-            let full = with_penalty(choice, near, c);
-            if full >= least {
+            let after_chroma = with_penalty(choice, after_luma, c);
+            if after_chroma >= least {
                 continue 'columns;
             }
             x = vx;
             y = vy;
             sad = plain_sad(l, c);
-            least = full;
+            least = after_chroma;
         }
     }
     Chosen {

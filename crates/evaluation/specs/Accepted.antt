@@ -10,16 +10,17 @@ use lib.IntN.{ℤ, pos, negsuc, natAbs, _+ℤ_, _-ℤ_, _*ℤ_}
 use lib.ListN.{length}
 use lib.Signed.{ltZ, leZ, _≤ℤ_}
 use Prim.Native.Nat.{_%_}
-use Rattle.whole.specs.Numbers.{liesIn}
+use Rattle.limits.specs.Ranges.{radius-within, shift-within}
+use Rattle.whole.specs.Numbers.{liesIn, fitsI16}
 use Rattle.whole.specs.Signed.{P, N, signed, abs-is, add-is, diff-is, times-is, eq-is}
 use Rattle.whole.specs.Truth.{left-of, right-of, lies-low, lies-high, three-of, four-of, five-of, six-of}
-use Rattle.whole.specs.Interval.{Within}
-use Rattle.limits.specs.Limits.{same, isBlock, isFrameSide, isPel, areShifts, shiftedBy}
+use Rattle.whole.specs.Interval.{Within, i16-within}
+use Rattle.limits.specs.Limits.{same, isBlock, isFrameSide, isPel, areShifts, shiftedBy, radiusOf}
 use Rattle.limits.specs.Refusals.{first, anyUpto}
 use Rattle.limits.specs.Refused.{first-passed, each-fails, neither-first, neither-second}
 use Rattle.records.specs.declared.Pair.{Pair}
 use Rattle.records.specs.declared.Record.{Record}
-use Rattle.records.specs.Packing.{partFits, pairFits, pairsFit}
+use Rattle.records.specs.Packing.{pairFits, pairsFit}
 use Rattle.window.specs.Windows.{isBad, sideOf, mostOf, windowWide, isWide}
 use Rattle.plane.specs.declared.Place.{Place}
 use Rattle.plane.specs.Places.{limitsHold, keepsLength, Placed}
@@ -29,8 +30,6 @@ use Rattle.choosing.specs.Choosing.{countOf}
 use Rattle.choosing.specs.Bounds.{Ranged, Served}
 use Rattle.block.specs.declared.Planes.{Planes}
 use Rattle.block.specs.declared.Sides.{Sides}
-use Rattle.block.specs.Shapes.{radiusOf}
-use Rattle.block.specs.Bounds.{within-radius}
 use Rattle.best.specs.declared.Task.{Task}
 use Rattle.best.specs.Best.{choiceOf}
 use Rattle.best.specs.Fair.{Fair}
@@ -38,7 +37,7 @@ use Rattle.record_slice.specs.RecordSlice.{recordAt, anyWide}
 use Rattle.planning.specs.Refusals.{chromaHolds, planesHold, holds3}
 use Rattle.planning.specs.Accepted.{shifted-least, same-of}
 use Rattle.evaluation.specs.declared.Request.{Request}
-use Rattle.evaluation.specs.Refusals.{holds1, referenceHolds, referencesHold, holds2, hasRoom, searchOf, refusalOf}
+use Rattle.evaluation.specs.Refusals.{holds1, referenceHolds, referencesHold, holds2, hasRoom, refusalOf}
 use Rattle.evaluation.specs.Evaluated.{taskOf}
 use Rattle.evaluation.specs.Asked.{Searched, FairAll}
 
@@ -49,9 +48,6 @@ lies least greatest z e =
     (omega signed, omega signed)
 
 -- ---- a window that refusal 7 lets through
-part-within : (z : ℤ) → partFits z ≡ true → Within 32768 32767 z
-part-within z e = let l = lies (negsuc 32767) (pos 32767) z e in let low = l .0 in let high = l .1 in omega signed
-
 record Parts (p : Pair) : Type 0 where
   first : Within 32768 32767 (p .first)
   second : Within 32768 32767 (p .second)
@@ -59,8 +55,8 @@ record Parts (p : Pair) : Type 0 where
 parts : (p : Pair) → pairFits p ≡ true → Parts p
 parts p e =
     record {
-      first = part-within (p .first) (left-of (partFits (p .first)) (partFits (p .second)) e);
-      second = part-within (p .second) (right-of (partFits (p .first)) (partFits (p .second)) e);
+      first = i16-within (p .first) (left-of (fitsI16 (p .first)) (fitsI16 (p .second)) e);
+      second = i16-within (p .second) (right-of (fitsI16 (p .first)) (fitsI16 (p .second)) e);
     }
 
 -- a side that is not empty is as long as its count
@@ -142,13 +138,6 @@ reference-placed pel source reference n s e kept =
     let t = four-of (limitsHold reference) (same (source .width) (reference .width)) (same (source .height) (reference .height)) (same pel (reference .pel)) e in
     placed-of reference n (t .0) kept (same-of (source .width) (reference .width) (t .1)) (same-of (source .height) (reference .height) (t .2)) (s .wide) (s .tall) (s .low)
 
-shift-within : (x y : ℤ) → areShifts x y ≡ true → Within 0 1 x
-shift-within x y e =
-    let l = lies (pos 0) (pos 1) x (left-of (liesIn (pos 0) (pos 1) x) (liesIn (pos 0) x y) e) in
-    let low = l .0 in
-    let high = l .1 in
-    omega signed
-
 pub searched : (q : Request) → holds1 q ≡ true → Searched q
 unfolding holds1
 searched q e =
@@ -159,7 +148,7 @@ searched q e =
 
 pub fair : (q : Request) (r : Record) (luma u v referenceLuma referenceU referenceV : ℕ) → holds1 q ≡ true → holds2 q ≡ true →
     holds3 (q .source) luma u v ≡ true → holds3 (q .reference) referenceLuma referenceU referenceV ≡ true →
-    pairsFit r ≡ true → isWide (radiusOf (searchOf q)) r ≡ false → Fair (taskOf q) r
+    pairsFit r ≡ true → isWide (radiusOf (q .«search_param»)) r ≡ false → Fair (taskOf q) r
 unfolding holds1 holds2 holds3 planesHold referencesHold
 fair q r luma u v referenceLuma referenceU referenceV e₁ e₂ e₃ e₄ pairs wide =
     let s = q .source in
@@ -186,7 +175,7 @@ fair q r luma u v referenceLuma referenceU referenceV e₁ e₂ e₃ e₄ pairs 
       reference-u = reference-placed (q .pel) (s .u) (g .u) referenceU own-u (m .1) (l .1);
       reference-v = reference-placed (q .pel) (s .v) (g .v) referenceV own-v (m .2) (l .2);
       pairs = pairs;
-      served = λ b. served (taskOf q) (radiusOf (searchOf q)) r (within-radius (searchOf q) (searched q e₁ .search)) pairs wide b;
+      served = λ b. served (taskOf q) (radiusOf (q .«search_param»)) r (radius-within (searched q e₁ .search)) pairs wide b;
     }
 
 -- ---- the chain: 0 where every test holds
@@ -207,10 +196,10 @@ accepted q records luma u v referenceLuma referenceU referenceV bests e =
     let t₂ = passed (holds2 q) 1 _ (t₁ .1) in
     let t₃ = passed (own && other) 2 _ (t₂ .1) in
     let t₅ = passed (hasRoom (length records) bests) 4 _ (t₃ .1) in
-    let t₇ = first-passed (anyWide (radiusOf (searchOf q)) records n) 6 0 (t₅ .1) in
+    let t₇ = first-passed (anyWide (radiusOf (q .«search_param»)) records n) 6 0 (t₅ .1) in
     record {
       fair-all = λ i l pairs.
           fair q (recordAt records i) luma u v referenceLuma referenceU referenceV (t₁ .0) (t₂ .0) (left-of own other (t₃ .0)) (right-of own other (t₃ .0)) pairs
-          (each-fails (λ j. isWide (radiusOf (searchOf q)) (recordAt records j)) n i (t₇ .0) l);
+          (each-fails (λ j. isWide (radiusOf (q .«search_param»)) (recordAt records j)) n i (t₇ .0) l);
       room = leb-true (4 * n) bests (right-of (eqb (length records % 12) 0) (leb (4 * n) bests) (t₅ .0));
     }

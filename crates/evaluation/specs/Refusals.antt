@@ -1,18 +1,16 @@
 -- When evaluating refuses: 01, "Numbers accepted", its limits and its table. Each `holds` says that a number of the table does not apply. Definitions alone.
-use mathlib.Core.Bool.{Bool, true, _&&_, not}
+use mathlib.Core.Bool.{Bool, _&&_, not}
 use mathlib.Core.List.{List}
 use Prim.Native.Nat.{ℕ, _*_, _/_, _%_}
 use lib.Dec.{eqb, leb}
 use lib.IntN.{ℤ, pos, negsuc}
 use lib.ListN.{length}
 use Rattle.whole.specs.Numbers.{liesIn}
-use Rattle.limits.specs.Limits.{same, isBlock, isFrameSide, isPel, areShifts}
+use Rattle.limits.specs.Limits.{same, isBlock, isFrameSide, isPel, areShifts, radiusOf}
 use Rattle.limits.specs.Refusals.{first}
 use Rattle.plane.specs.declared.Place.{Place}
 use Rattle.plane.specs.Places.{limitsHold}
 use Rattle.block.specs.declared.Planes.{Planes}
-use Rattle.block.specs.declared.Search.{Search}
-use Rattle.block.specs.Shapes.{radiusOf}
 use Rattle.record_slice.specs.RecordSlice.{anyWide}
 use Rattle.planning.specs.Refusals.{planesHold, holds3}
 use Rattle.evaluation.specs.declared.Request.{Request}
@@ -45,9 +43,6 @@ abbrev pub hasRoom : ℕ → ℕ → Bool
 hasRoom words bests = eqb (words % 12) 0 && leb (4 * (words / 12)) bests
 
 -- ---- "7: a BAD record's window has both sides non-empty and one over 2 x radius + 1": asked of all records. "Radius is the absolute value of `search_param`."
-abbrev pub searchOf : Request → Search
-searchOf q = record { exhaustive = true; «search_param» = q .«search_param» }
-
 -- ---- "If several apply, the lowest is given". 3: "a plane breaks its length rule", the reference's too
 unfoldable pub refusalOf : Request → List ℤ → ℕ → ℕ → ℕ → ℕ → ℕ → ℕ → ℕ → ℕ
 refusalOf q records luma u v referenceLuma referenceU referenceV bests =
@@ -55,4 +50,4 @@ refusalOf q records luma u v referenceLuma referenceU referenceV bests =
     (first (not (holds2 q)) 2
     (first (not (holds3 (q .source) luma u v && holds3 (q .reference) referenceLuma referenceU referenceV)) 3
     (first (not (hasRoom (length records) bests)) 5
-    (first (anyWide (radiusOf (searchOf q)) records (length records / 12)) 7 0))))
+    (first (anyWide (radiusOf (q .«search_param»)) records (length records / 12)) 7 0))))

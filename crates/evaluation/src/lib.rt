@@ -2,7 +2,6 @@
 use best::Best;
 use best::Task;
 use block::Planes;
-use block::Search;
 use block::Sides;
 use plane::Place;
 ghost use mathlib.Core.Path.{_≡_};
@@ -10,10 +9,10 @@ ghost use mathlib.Core.List.{_++_};
 ghost use Prim.Native.Nat.{_+_, _*_, _/_, _≤_};
 ghost use lib.ListN.{length, drop};
 ghost use lib.Seq.{paste};
-ghost use Rattle.evaluation.specs.Refusals.{holds1, referenceHolds, referencesHold, holds2, hasRoom, searchOf, refusalOf};
+ghost use Rattle.limits.specs.Limits.{radiusOf};
+ghost use Rattle.evaluation.specs.Refusals.{holds1, referenceHolds, referencesHold, holds2, hasRoom, refusalOf};
 ghost use Rattle.evaluation.specs.Evaluated.{taskOf, bestList, bestsUpto, evaluateAnswer, evaluateBests};
 ghost use Rattle.evaluation.specs.Asked.{FairAll, Searched};
-ghost use Rattle.block.specs.Shapes.{radiusOf};
 ghost use Rattle.record_slice.specs.RecordSlice.{anyWide};
 
 #[repr(C)]
@@ -116,16 +115,12 @@ fn has_room(words: usize, bests: usize) -> bool
     (words % 12 == 0) & (4 * (words / 12) <= bests)
 }
 
-fn is_wide(request: Request, records: &[i32]) -> bool
+fn any_too_wide(request: Request, records: &[i32]) -> bool
     requires { ⌜ Searched request ⌝ }
-    ensures { λ r. ⌜ r ≡ anyWide (radiusOf (searchOf request)) (now (records .entry)) (length (now (records .entry)) / 12) ⌝ }
+    ensures { λ r. ⌜ r ≡ anyWide (radiusOf (request .«search_param»)) (now (records .entry)) (length (now (records .entry)) / 12) ⌝ }
 {
     let search_param = request.search_param;
-    let search = Search {
-        exhaustive: true,
-        search_param: search_param,
-    };
-    let radius = block::radius_of(search);
+    let radius = limits::radius_of(search_param);
     record_slice::any_wide(records, radius, records.len() / 12)
 }
 
@@ -160,7 +155,7 @@ fn refusal(
     if !has_room(records.len(), bests) {
         return 5;
     }
-    if is_wide(request, records) {
+    if any_too_wide(request, records) {
         return 7;
     }
     0

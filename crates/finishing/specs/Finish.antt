@@ -7,7 +7,8 @@ use lib.Dec.{eqb, ltb}
 use lib.IntN.{ℤ, pos, natAbs}
 use lib.ListN.{length, getD, set}
 use lib.Signed.{ltZ, leZ}
-use Rattle.limits.specs.Limits.{isComponent}
+use Rattle.limits.specs.Limits.{blocksOf}
+use Rattle.whole.specs.Numbers.{fitsI16}
 use Rattle.limits.specs.Refusals.{first, anyUpto, kept}
 use Rattle.score.specs.Score.{outputWord, packedScore}
 
@@ -62,10 +63,6 @@ putting indices bests diagonal n output = wordsPut output (blockAt indices n) (w
 abbrev pub refused1 : ℤ → ℤ → Bool
 refused1 nx ny = ltZ nx (pos 2) || ltZ ny (pos 2)
 
--- the grid's blocks, where 1 is not given
-abbrev pub blocksOf : ℤ → ℤ → ℕ
-blocksOf nx ny = natAbs nx * natAbs ny
-
 -- 2: "another number outside the limits", here a side over 2,048; "vector count not the block count, or a diagonal of 0 or less"
 abbrev pub sidesOver : ℤ → ℤ → Bool
 sidesOver nx ny = ltZ (pos 2048) nx || ltZ (pos 2048) ny
@@ -89,7 +86,7 @@ refused5 nx ny indices bests asked room = asked && ltb room (2 * blocksOf nx ny)
 
 -- 7: "a best's vector doesn't fit i16"
 abbrev pub isWild : ℤ → ℤ → Bool
-isWild x y = not (isComponent x && isComponent y)
+isWild x y = not (fitsI16 x && fitsI16 y)
 
 abbrev pub anyWild : List ℤ → ℕ → Bool
 anyWild bests entries = anyUpto (λ n. isWild (xAt bests n) (yAt bests n)) entries

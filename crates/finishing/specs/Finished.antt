@@ -8,9 +8,10 @@ use native.Mathlib.Omega.{arith}
 use lib.IntN.{ℤ, pos}
 use lib.ListN.{length, getD, set, drop, length-set}
 use lib.Seq.{getD-set-same, getD-set-other, drop-set-lt}
+use Rattle.limits.specs.Limits.{blocksOf}
 use Rattle.limits.specs.Refusals.{kept}
 use Rattle.limits.specs.Refused.{kept-done}
-use Rattle.finishing.specs.Finish.{blockAt, xAt, yAt, sadAt, writtenUpto, stored, storing, wordAt, scoreAt, wordsPut, putting, blocksOf, finishAnswer, finishVectors, finishOutput}
+use Rattle.finishing.specs.Finish.{blockAt, xAt, yAt, sadAt, writtenUpto, stored, storing, wordAt, scoreAt, wordsPut, putting, finishAnswer, finishVectors, finishOutput}
 use Rattle.finishing.specs.Written.{unchanged, as-left-by, vectors-long, output-long}
 use Rattle.finishing.specs.Served.{passed}
 

@@ -13,12 +13,13 @@ use lib.Signed.{ltZ, leZ, nonNeg}
 use mir.Facts.{toZ-ofZ}
 use mir.Syntax.{w32, w64}
 use mir.Val.{SFits, Fits, toZ, ofZ}
+use Rattle.limits.specs.Limits.{blocksOf}
+use Rattle.whole.specs.Numbers.{fitsI16}
 use Rattle.whole.specs.Signed.{signed, range, abs-is}
 use Rattle.whole.specs.Truth.{both-of}
-use Rattle.limits.specs.Limits.{isComponent}
 use Rattle.limits.specs.Refused.{neither-first, neither-second, each-fails, first-passed}
 use Rattle.finishing.specs.Asked.{Grid, Placed, Scored}
-use Rattle.finishing.specs.Finish.{indexAt, blockAt, xAt, yAt, refused1, sidesOver, blocksOf, refused2, isStray, refused4, refused5, isWild, refused7, finishAnswer}
+use Rattle.finishing.specs.Finish.{indexAt, blockAt, xAt, yAt, refused1, sidesOver, refused2, isStray, refused4, refused5, isWild, refused7, finishAnswer}
 
 pub grid-of : (nx ny : ℤ) → refused1 nx ny ≡ false → sidesOver nx ny ≡ false → Grid nx ny
 grid-of nx ny b o =
@@ -56,7 +57,7 @@ pub record Passed (nx ny : ℤ) (indices bests : List ℤ) (diagonal : ℤ) (ask
   pub inside : (n : ℕ) → n < length indices → Inside (blocksOf nx ny) (indexAt indices n)
   pub room-is : asked ≡ true → 2 * blocksOf nx ny ≤ room
   pub four-each : length bests ≡ 4 * length indices
-  pub tame : (n : ℕ) → n < length indices → (isComponent (xAt bests n) && isComponent (yAt bests n)) ≡ true
+  pub tame : (n : ℕ) → n < length indices → (fitsI16 (xAt bests n) && fitsI16 (yAt bests n)) ≡ true
 
 module _ (nx ny : ℤ) (indices bests : List ℤ) (diagonal : ℤ) (asked : Bool) (held room : ℕ) where
   pub passed : finishAnswer nx ny indices bests diagonal asked held room ≡ 0 → Passed nx ny indices bests diagonal asked held room
@@ -80,7 +81,7 @@ module _ (nx ny : ℤ) (indices bests : List ℤ) (diagonal : ℤ) (asked : Bool
         inside = λ n h. inside-of blocks (indexAt indices n) (each-fails (λ k. isStray (pos blocks) (indexAt indices k)) entries n (four .0) h);
         room-is = λ t. enough blocks t (neither-first short (not alike) (five .0));
         four-each = eqb-true (length bests) (4 * entries) (not-false alike (neither-second short (not alike) (five .0)));
-        tame = λ n h. not-false (isComponent (xAt bests n) && isComponent (yAt bests n)) (each-fails (λ k. isWild (xAt bests k) (yAt bests k)) entries n (seven .0) h);
+        tame = λ n h. not-false (fitsI16 (xAt bests n) && fitsI16 (yAt bests n)) (each-fails (λ k. isWild (xAt bests k) (yAt bests k)) entries n (seven .0) h);
       }
     where
       enough : (blocks : ℕ) → asked ≡ true → (asked && ltb room (2 * blocks)) ≡ false → 2 * blocks ≤ room

@@ -6,8 +6,8 @@ ghost use mathlib.Core.Bool.{true};
 ghost use Prim.Native.Nat.{_+_, _*_, _≤_};
 ghost use lib.ListN.{length};
 ghost use Rattle.score.specs.Score.{outputWord, packedScore, scoreFits};
-ghost use Rattle.finishing.specs.Finish.{writtenUpto, stored, storing, wordsPut, putting, refused1, blocksOf, sidesOver, isStray, anyStray, isWild, anyWild, finishAnswer, finishVectors, finishOutput};
-ghost use Rattle.finishing.specs.Asked.{Grid, Placed, Scored};
+ghost use Rattle.finishing.specs.Finish.{writtenUpto, stored, storing, wordsPut, putting, refused1, sidesOver, isStray, anyStray, isWild, anyWild, finishAnswer, finishVectors, finishOutput};
+ghost use Rattle.finishing.specs.Asked.{Placed, Scored};
 
 fn sides_below(nx: i32, ny: i32) -> bool
     ensures { λ r. ⌜ r ≡ refused1 nx ny ⌝ }
@@ -19,13 +19,6 @@ fn sides_over(nx: i32, ny: i32) -> bool
     ensures { λ r. ⌜ r ≡ sidesOver nx ny ⌝ }
 {
     (2048 < nx) | (2048 < ny)
-}
-
-fn blocks_of(nx: i32, ny: i32) -> usize
-    requires { ⌜ Grid nx ny ⌝ }
-    ensures { λ r. ⌜ (r ≡ blocksOf nx ny) × (r ≤ 4194304) ⌝ }
-{
-    nx as usize * ny as usize
 }
 
 fn is_stray(index: i32, blocks: i32) -> bool
@@ -49,7 +42,7 @@ fn any_stray(indices: &[i32], blocks: i32) -> bool
 fn is_wild(x: i32, y: i32) -> bool
     ensures { λ r. ⌜ r ≡ isWild x y ⌝ }
 {
-    !(limits::is_component(x) & limits::is_component(y))
+    !(whole::fits_i16(x) & whole::fits_i16(y))
 }
 
 fn any_wild(bests: &[i32], entries: usize) -> bool
@@ -84,7 +77,7 @@ fn refusal(
     if sides_over(nx, ny) {
         return 2;
     }
-    let blocks = blocks_of(nx, ny);
+    let blocks = limits::blocks_of(nx, ny);
     if (held != 3 * blocks) | (diagonal <= 0) {
         return 2;
     }

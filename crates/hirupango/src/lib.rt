@@ -1,5 +1,4 @@
 // What a host in C calls: thin functions over the proved entries. include/hirupango.h declares them.
-use block::Search;
 use block::Settings;
 use evaluation::Request;
 use planning::Planned;
@@ -63,11 +62,7 @@ fn slots_answer(search_param: i32) -> Answer
     if !whole::within(search_param, -3, 3) {
         return Answer::Refused;
     }
-    let search = Search {
-        exhaustive: true,
-        search_param: search_param,
-    };
-    Answer::Is(window::slots_of(block::radius_of(search)))
+    Answer::Is(window::slots_of(limits::radius_of(search_param)))
 }
 
 #[no_mangle]

@@ -1,8 +1,8 @@
 -- 01, "Numbers accepted", one definition for each kind of number. Definitions alone.
 use mathlib.Core.Bool.{Bool, _&&_, _||_, cond}
-use Prim.Native.Nat.{ℕ}
+use Prim.Native.Nat.{ℕ, _*_}
 use lib.Dec.{leb}
-use lib.IntN.{ℤ, pos, negsuc}
+use lib.IntN.{ℤ, pos, natAbs}
 use lib.Signed.{ltZ, shrZ}
 use Rattle.whole.specs.Numbers.{liesIn}
 
@@ -13,6 +13,10 @@ same x y = liesIn x x y
 -- "Block 8x8, 16x8 or 16x16"
 abbrev pub isBlock : ℤ → ℤ → Bool
 isBlock width height = same (pos 8) width && same (pos 8) height || same (pos 16) width && (same (pos 8) height || same (pos 16) height)
+
+-- the blocks of a grid: the product of its sides. One with a side below 2 is refused with 1, whatever its count.
+abbrev pub blocksOf : ℤ → ℤ → ℕ
+blocksOf nx ny = natAbs nx * natAbs ny
 
 -- "Grid sides 2 to 2,048"
 abbrev pub isGridSide : ℤ → Bool
@@ -28,11 +32,11 @@ isFrameSide side = liesIn (pos 2) (pos 16384) side
 
 -- "Pel 1, 2 or 4"
 abbrev pub isPel : ℤ → Bool
-isPel pel = liesIn (pos 1) (pos 2) pel || liesIn (pos 4) (pos 4) pel
+isPel pel = same (pos 1) pel || same (pos 2) pel || same (pos 4) pel
 
--- "Chroma shifts (0,0), (1,0) or (1,1)": x is 0 or 1, and y at most x
+-- "Chroma shifts (0,0), (1,0) or (1,1)"
 abbrev pub areShifts : ℤ → ℤ → Bool
-areShifts x y = liesIn (pos 0) (pos 1) x && liesIn (pos 0) x y
+areShifts x y = same (pos 0) x && same (pos 0) y || same (pos 1) x && same (pos 0) y || same (pos 1) x && same (pos 1) y
 
 -- "chroma sides are the luma sides shifted right": z >> s, where s is 0 or 1
 abbrev pub shiftedBy : ℤ → ℤ → ℤ
@@ -42,13 +46,13 @@ shiftedBy z s = cond (ltZ s (pos 1)) z (shrZ z 2)
 abbrev pub isPitch : ℤ → ℤ → Bool
 isPitch width pitch = liesIn width (pos 65536) pitch
 
+-- "Radius is the absolute value of `search_param`."
+abbrev pub radiusOf : ℤ → ℤ
+radiusOf param = pos (natAbs param)
+
 -- "A plane's data are at most 1,073,741,823 bytes"
 abbrev pub greatestLength : ℕ
 greatestLength = 1073741823
 
 abbrev pub isLength : ℕ → Bool
 isLength length = leb length greatestLength
-
--- "Vector components fit i16"
-abbrev pub isComponent : ℤ → Bool
-isComponent component = liesIn (negsuc 32767) (pos 32767) component

@@ -1,11 +1,12 @@
 -- What Refusals says: a test asked of n things one after the other, and a table taken apart from its front. Assumes nothing.
-use mathlib.Core.Path.{_≡_, refl, sym, subst}
-use mathlib.Core.Bool.{Bool, true, false, _||_}
+use mathlib.Core.Path.{_≡_, refl, sym, ap, subst, _∙_}
+use mathlib.Core.Bool.{Bool, true, false, _&&_, _||_, not}
 use mathlib.Core.List.{List}
 use mathlib.Core.Logic.{⊎-elim}
 use Prim.Native.Nat.{ℕ, zero, suc, _+_, _<_}
 use native.Mathlib.Numerals.{add-one}
 use native.Mathlib.Omega.{arith}
+use borrow.Author.Tests.{not-true, not-false}
 use Rattle.whole.specs.Signed.{holds, lt-or-ge}
 use Rattle.whole.specs.Truth.{either-of}
 use Rattle.limits.specs.Refusals.{first, anyUpto, kept}
@@ -50,6 +51,31 @@ module _ (test : ℕ → Bool) where
       (λ before. let found = some-passes n before in (found .0, omega arith, found .2))
       (λ last. (n, omega arith, last))
       (either-of (anyUpto test n) (test n) e)
+
+  -- and the answer is no where none passes
+  pub none-passes : (n : ℕ) → ((i : ℕ) → i < n → test i ≡ false) → anyUpto test n ≡ false
+  unfolding anyUpto
+  none-passes zero h = refl
+  none-passes (suc n) h = rw (none-passes n (λ i l. h i (omega arith)), h n (omega arith))
+
+-- ---- a test that holds of each of n things: none of them is one of which it doesn't
+module _ (test : ℕ → Bool) where
+  abbrev pub Fails : ℕ → Bool
+  Fails i = not (test i)
+
+  pub all-none : true ≡ not (anyUpto Fails 0)
+  all-none = ap not (any-none Fails)
+
+  but-last : (a b : Bool) → not (a || not b) ≡ (not a && b)
+  but-last true b = refl
+  but-last false true = refl
+  but-last false false = refl
+
+  pub all-more : (n : ℕ) → not (anyUpto Fails (n + 1)) ≡ (not (anyUpto Fails n) && test n)
+  all-more n = ap not (any-more Fails n) ∙ but-last (anyUpto Fails n) (test n)
+
+  pub each-passes : (n i : ℕ) → not (anyUpto Fails n) ≡ true → i < n → test i ≡ true
+  each-passes n i e h = not-false (test i) (each-fails Fails n i (not-true (anyUpto Fails n) e) h)
 
 -- ---- the front of a table that gives 0
 pub first-passed : (test : Bool) (n rest : ℕ) → first test (1 + n) rest ≡ 0 → (test ≡ false) × (rest ≡ 0)

@@ -1,7 +1,9 @@
 // The numbers that are accepted, one test for each kind. Several entries ask the same ones.
 
 ghost use mathlib.Core.Path.{_≡_};
-ghost use Rattle.limits.specs.Limits.{isBlock, isGridSide, isStep, isFrameSide, isPel, areShifts, shiftedBy, isPitch, isLength, isComponent};
+ghost use Prim.Native.Nat.{_≤_};
+ghost use Rattle.whole.specs.Interval.{Within};
+ghost use Rattle.limits.specs.Limits.{isBlock, isGridSide, isStep, isFrameSide, isPel, areShifts, shiftedBy, isPitch, isLength, blocksOf, radiusOf};
 
 pub fn is_grid_side(side: i32) -> bool
     ensures { λ r. ⌜ r ≡ isGridSide side ⌝ }
@@ -24,13 +26,17 @@ pub fn is_frame_side(side: i32) -> bool
 pub fn is_pel(pel: i32) -> bool
     ensures { λ r. ⌜ r ≡ isPel pel ⌝ }
 {
-    whole::within(pel, 1, 2) | whole::within(pel, 4, 4)
+    whole::within(pel, 1, 1) | whole::within(pel, 2, 2) | whole::within(pel, 4, 4)
 }
 
 pub fn are_shifts(x: i32, y: i32) -> bool
     ensures { λ r. ⌜ r ≡ areShifts x y ⌝ }
 {
-    whole::within(x, 0, 1) & whole::within(y, 0, x)
+    let x_0 = whole::within(x, 0, 0);
+    let x_1 = whole::within(x, 1, 1);
+    let y_0 = whole::within(y, 0, 0);
+    let y_1 = whole::within(y, 1, 1);
+    x_0 & y_0 | x_1 & y_0 | x_1 & y_1
 }
 
 pub fn is_pitch(width: i32, pitch: i32) -> bool
@@ -43,12 +49,6 @@ pub fn is_length(length: usize) -> bool
     ensures { λ r. ⌜ r ≡ isLength length ⌝ }
 {
     length <= 1073741823
-}
-
-pub fn is_component(component: i32) -> bool
-    ensures { λ r. ⌜ r ≡ isComponent component ⌝ }
-{
-    whole::within(component, -32768, 32767)
 }
 
 pub fn is_block(width: i32, height: i32) -> bool
@@ -67,4 +67,18 @@ pub fn shifted(z: i32, shift: i32) -> i32
         return z;
     }
     z >> 1
+}
+
+// The blocks of a grid, whatever its sides are.
+pub fn blocks_of(nx: i32, ny: i32) -> usize
+    ensures { λ r. ⌜ (r ≡ blocksOf nx ny) × (r ≤ 4611686018427387904) ⌝ }
+{
+    whole::size(nx) as usize * whole::size(ny) as usize
+}
+
+pub fn radius_of(search_param: i32) -> i32
+    requires { ⌜ Within 3 3 «search_param» ⌝ }
+    ensures { λ r. ⌜ r ≡ radiusOf «search_param» ⌝ }
+{
+    whole::size(search_param) as i32
 }

@@ -72,10 +72,15 @@ trailerHolds t bytes =
 unfoldable pub isPlanFile : List ℕ → Bool
 isPlanFile file = leb 32 (length file) && leb (length file) 65536 && trailerHolds (trailerOf file) (length file)
 
--- whether any of the first so many records is so wide, and how many of them pass a test
+-- whether any of the first so many records is so wide
 abbrev pub anyWide : ℤ → List ℕ → ℕ → Bool
 anyWide radius file n = anyUpto (λ i. isWide radius (recordAt file i)) n
 
+-- "a BAD record's window has both sides non-empty and one over 2 x radius + 1", of any record of the file
+abbrev pub wideFile : List ℕ → Bool
+wideFile file = anyWide (trailerOf file .radius) file (natAbs (trailerOf file .count))
+
+-- how many of the first so many records pass a test
 unfoldable pub tally : (Record → Bool) → List ℕ → ℕ → ℕ
 tally test file zero = 0
 tally test file (suc n) = tally test file n + cond (test (recordAt file n)) 1 0
@@ -97,9 +102,7 @@ headOf file =
 -- "a file is asked for 8 first"
 unfoldable pub planOf : List ℕ → Plan
 planOf file =
-    cond (isPlanFile file)
-    (cond (anyWide (trailerOf file .radius) file (natAbs (trailerOf file .count))) (plan.Refused 7) (plan.Accepted (headOf file)))
-    (plan.Refused 8)
+    cond (isPlanFile file) (cond (wideFile file) (plan.Refused 7) (plan.Accepted (headOf file))) (plan.Refused 8)
 
 -- 01's numbers for the answers: 0 done
 abbrev pub planNumber : Plan → ℕ

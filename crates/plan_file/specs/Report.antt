@@ -5,25 +5,24 @@
 --
 -- "First line: count, records with BAD set, block size, pel, slots. Then each record's number, its two flags, lambda, predictor, SAD, average offset or `none`,
 -- and x least, x greatest, y least, y greatest." Definitions alone.
-use mathlib.Core.Bool.{cond}
+use mathlib.Core.Bool.{Bool, not}
 use mathlib.Core.List.{List, _++_}
-use Prim.Native.Nat.{ℕ}
+use Prim.Native.Nat.{ℕ, zero, suc}
 use Prim.Native.String.{String}
 use lib.Dec.{ltb}
 use lib.IntN.{ℤ, pos, natAbs}
+use lib.ListN.{length, drop}
+use Rattle.limits.specs.Refusals.{first, kept}
 use Rattle.records.specs.declared.Offset.{Offset}
 use Rattle.records.specs.declared.Offset.the-variants.{At, Absent}
 use Rattle.records.specs.declared.Pair.{Pair}
 use Rattle.records.specs.declared.Record.{Record}
 use Rattle.report_text.specs.Text.{codes, decimal}
-use Rattle.report_text.specs.Putting.{lentAnswer, lentLine}
 use Rattle.report_text.specs.declared.Written.{Written}
 use Rattle.report_text.specs.declared.Written.the-variants as written
 use Rattle.plan_file.specs.declared.Head.{Head}
-use Rattle.plan_file.specs.declared.Plan.{Plan}
-use Rattle.plan_file.specs.declared.Plan.the-variants as plan
 use Rattle.window.specs.Windows.{badFlag, halfFlag}
-use Rattle.plan_file.specs.PlanFile.{recordAt, planOf}
+use Rattle.plan_file.specs.PlanFile.{recordAt, trailerOf, isPlanFile, wideFile, headOf}
 
 -- ---- the two kinds of line
 abbrev pub field : String → ℤ → List ℕ
@@ -59,32 +58,44 @@ lineText number r =
     ++ (codes "," ++ pairText (r .«window_y»))
     ++ codes "\n"
 
--- ---- the answers: 8 and 7 of the file, then 4 of a number that no record has, then 5 of a line that is too short
-abbrev pub answered : Plan → (Head → Written) → Written
-answered (plan.Accepted head) f = f head
-answered (plan.Refused number) f = written.Refused number
+-- ---- the answers. "If several apply, the lowest is given; a file is asked for 8 first."
+-- of a text that is to go into a line: 5 "a lent output is too short", and then 7 where the file is refused for a window
+abbrev pub textNumber : Bool → List ℕ → ℕ → ℕ
+textNumber wide text room = first (ltb room (length text)) 5 (first wide 7 0)
+
+abbrev pub answered : ℕ → List ℕ → Written
+answered zero text = written.Length (length text)
+answered (suc number) text = written.Refused (suc number)
+
+-- the lent line afterwards: "A refusal .. changes nothing lent", "a longer buffer keeps its tail"
+abbrev pub lineAfter : ℕ → List ℕ → List ℕ → List ℕ
+lineAfter number text line = kept number (text ++ drop (length text) line) line
+
+-- the first line
+abbrev pub headNumber : List ℕ → ℕ → ℕ
+headNumber file room = first (not (isPlanFile file)) 8 (textNumber (wideFile file) (headText (headOf file)) room)
 
 unfoldable pub headAnswer : List ℕ → ℕ → Written
-headAnswer file room = answered (planOf file) (λ head. lentAnswer (headText head) room)
-
-unfoldable pub lineAnswer : List ℕ → ℕ → ℕ → Written
-lineAnswer file number room =
-    answered (planOf file)
-    (λ head. cond (ltb number (natAbs (head .count))) (lentAnswer (lineText (pos number) (recordAt file number)) room) (written.Refused 4))
-
--- ---- the lent line afterwards: a refusal leaves it as it was
-abbrev pub kept : Plan → (Head → List ℕ) → List ℕ → List ℕ
-kept (plan.Accepted head) f line = f head
-kept (plan.Refused number) f line = line
+headAnswer file room = answered (headNumber file room) (headText (headOf file))
 
 unfoldable pub headLine : List ℕ → List ℕ → List ℕ
-headLine file line = kept (planOf file) (λ head. lentLine (headText head) line) line
+headLine file line = lineAfter (headNumber file (length line)) (headText (headOf file)) line
+
+-- a record's line: 4 where no record has the number
+abbrev pub lineOf : List ℕ → ℕ → List ℕ
+lineOf file number = lineText (pos number) (recordAt file number)
+
+abbrev pub lineNumber : List ℕ → ℕ → ℕ → ℕ
+lineNumber file number room =
+    first (not (isPlanFile file)) 8
+    (first (not (ltb number (natAbs (trailerOf file .count)))) 4
+    (textNumber (wideFile file) (lineOf file number) room))
+
+unfoldable pub lineAnswer : List ℕ → ℕ → ℕ → Written
+lineAnswer file number room = answered (lineNumber file number room) (lineOf file number)
 
 unfoldable pub lineLine : List ℕ → ℕ → List ℕ → List ℕ
-lineLine file number line =
-    kept (planOf file)
-    (λ head. cond (ltb number (natAbs (head .count))) (lentLine (lineText (pos number) (recordAt file number)) line) line)
-    line
+lineLine file number line = lineAfter (lineNumber file number (length line)) (lineOf file number) line
 
 -- 01's numbers for the answers: 0 done
 abbrev pub writtenNumber : Written → ℕ

@@ -1,73 +1,96 @@
--- What the report's definitions say of each answer about the file. Assumes nothing.
-use mathlib.Core.Path.{_≡_, refl, ap}
-use mathlib.Core.Bool.{Bool, true, false, cond}
-use mathlib.Core.List.{List}
-use Prim.Native.Nat.{ℕ, _+_, _*_, _≤_, _<_}
-use native.Mathlib.Omega.{arith}
-use borrow.Author.Tests.{lt-ltb, le-ltb}
-use lib.Dec.{T}
-use lib.IntN.{ℤ, pos, natAbs}
-use lib.ListN.{length}
-use lib.Signed.{nonNeg}
+-- What the report's definitions say at each point of the table. Assumes nothing.
+use mathlib.Core.Path.{_≡_, refl, sym, ap, _∙_}
+use mathlib.Core.Bool.{Bool, true, false, _&&_, not, cond}
+use mathlib.Core.List.{List, _++_}
+use mathlib.Core.Logic.{⊎-elim}
+use Prim.Native.Nat.{ℕ, _≤_, _<_}
+use borrow.Author.Tests.{lt-ltb, le-ltb, lt-leb, le-leb}
+use lib.Dec.{leb, ltb}
+use lib.IntN.{natAbs}
+use lib.ListN.{length, drop}
+use Rattle.whole.specs.Signed.{holds, lt-or-ge}
+use Rattle.limits.specs.Refusals.{first, kept}
 use Rattle.report_text.specs.Putting.{lentAnswer, lentLine}
 use Rattle.report_text.specs.declared.Written.{Written}
 use Rattle.report_text.specs.declared.Written.the-variants as written
-use Rattle.plan_file.specs.declared.Head.{Head}
-use Rattle.plan_file.specs.declared.Plan.the-variants as plan
-use Rattle.plan_file.specs.PlanFile.{isPlanFile, trailerOf, anyWide, headOf, planOf, recordAt}
-use Rattle.plan_file.specs.Served.{served}
-use Rattle.plan_file.specs.Report.{headText, lineText, headAnswer, lineAnswer, headLine, lineLine}
+use Rattle.plan_file.specs.PlanFile.{isPlanFile, trailerOf, wideFile, headOf}
+use Rattle.plan_file.specs.Report.{headText, textNumber, answered, lineAfter, headAnswer, headLine, lineOf, lineAnswer, lineLine}
 
--- ---- the file that is accepted
-pub record Records (count : ℤ) (bytes : ℕ) : Type 0 where
-  pub natural : T (nonNeg count)
-  pub long : 48 * natAbs count + 32 ≡ bytes
-  pub most : bytes ≤ 65536
-
-apart : {h : Head} {n : ℕ} → plan.Refused n ≡ plan.Accepted h → ⊥
-apart e = let z : _≡_ {A = ℕ} 0 1 = cc in omega arith
-
-says : (p w : Bool) (x h : Head) → cond p (cond w (plan.Refused 7) (plan.Accepted x)) (plan.Refused 8) ≡ plan.Accepted h → (p ≡ true) × (x ≡ h)
-says true true x h e = absurd (apart e)
-says true false x h e = (refl, cc)
-says false w x h e = absurd (apart e)
-
-pub accepted-records : (file : List ℕ) (h : Head) → planOf file ≡ plan.Accepted h → Records (h .count) (length file)
-unfolding planOf headOf
-accepted-records file h e =
-    let s = says (isPlanFile file) (anyWide (trailerOf file .radius) file (natAbs (trailerOf file .count))) (headOf file) h e in
-    let k = served file (s .0) in
-    let same : trailerOf file .count ≡ h .count = ap (λ (x : Head). x .count) (s .1) in
-    let here : Records (trailerOf file .count) (length file) = record { natural = k .natural; long = k .counted; most = k .most } in
-    rw same at here
-
--- ---- an answer with what it leaves of the line
+-- an answer with what it leaves of the line
 pub record Gives (answer : Written) (after : List ℕ) (answer′ : Written) (after′ : List ℕ) : Type 0 where
   pub answer-is : answer ≡ answer′
   pub line-is : after ≡ after′
 
-module _ (file line : List ℕ) where
-  pub head-refused : (n : ℕ) → planOf file ≡ plan.Refused n → Gives (headAnswer file (length line)) (headLine file line) (written.Refused n) line
-  unfolding headAnswer headLine
-  head-refused n e = record { answer-is = rw e; line-is = rw e }
+-- ---- a text: 7 where the line has room and the file is too wide, else what laying it gives
+at-most : (a b : ℕ) → leb a b ≡ not (ltb b a)
+at-most a b = ⊎-elim (λ l. lt-leb a b l ∙ ap not (sym (lt-ltb b a l))) (λ l. le-leb a b l ∙ ap not (sym (le-ltb b a l))) (lt-or-ge b a)
 
-  pub head-accepted : (h : Head) → planOf file ≡ plan.Accepted h →
-      Gives (headAnswer file (length line)) (headLine file line) (lentAnswer (headText h) (length line)) (lentLine (headText h) line)
+both-hold : (w s : Bool) → (w && not s) ≡ true → first s 5 (first w 7 0) ≡ 7
+both-hold true true e = absurd (holds e)
+both-hold true false e = refl
+both-hold false s e = absurd (holds e)
+
+module _ (text line : List ℕ) where
+  answers-else : (w s : Bool) → (w && not s) ≡ false → answered (first s 5 (first w 7 0)) text ≡ cond s (written.Refused 5) (written.Length (length text))
+  answers-else w true e = refl
+  answers-else true false e = absurd (holds (sym e))
+  answers-else false false e = refl
+
+  leaves-else : (w s : Bool) → (w && not s) ≡ false → lineAfter (first s 5 (first w 7 0)) text line ≡ cond s line (text ++ drop (length text) line)
+  leaves-else w true e = refl
+  leaves-else true false e = absurd (holds (sym e))
+  leaves-else false false e = refl
+
+  module _ (wide : Bool) where
+    abbrev Number : ℕ
+    Number = textNumber wide text (length line)
+
+    abbrev Gives-text : Written → List ℕ → Type 0
+    Gives-text = Gives (answered Number text) (lineAfter Number text line)
+
+    pub text-refused : (wide && leb (length text) (length line)) ≡ true → Gives-text (written.Refused 7) line
+    text-refused e =
+        let seven : Number ≡ 7 = both-hold wide (ltb (length line) (length text)) (rw (at-most (length text) (length line)) at e) in
+        record { answer-is = rw seven; line-is = rw seven }
+
+    pub text-laid : (wide && leb (length text) (length line)) ≡ false → Gives-text (lentAnswer text (length line)) (lentLine text line)
+    text-laid e =
+        let other = rw (at-most (length text) (length line)) at e in
+        record { answer-is = answers-else wide (ltb (length line) (length text)) other; line-is = leaves-else wide (ltb (length line) (length text)) other }
+
+-- ---- what is laid of equal texts is equal
+pub texts-alike : {w W : Bool} {t T : List ℕ} (line : List ℕ) → w ≡ W → t ≡ T →
+    let n = textNumber w t (length line) in
+    let N = textNumber W T (length line) in
+    Gives (answered n t) (lineAfter n t line) (answered N T) (lineAfter N T line)
+texts-alike line p q = record { answer-is = rw (p, q); line-is = rw (p, q) }
+
+-- ---- a file
+module _ (file line : List ℕ) where
+  pub head-8 : isPlanFile file ≡ false → Gives (headAnswer file (length line)) (headLine file line) (written.Refused 8) line
   unfolding headAnswer headLine
-  head-accepted h e = record { answer-is = rw e; line-is = rw e }
+  head-8 e = record { answer-is = rw e; line-is = rw e }
+
+  pub head-given : isPlanFile file ≡ true →
+      let number = textNumber (wideFile file) (headText (headOf file)) (length line) in
+      Gives (headAnswer file (length line)) (headLine file line) (answered number (headText (headOf file))) (lineAfter number (headText (headOf file)) line)
+  unfolding headAnswer headLine
+  head-given e = record { answer-is = rw e; line-is = rw e }
 
   module _ (number : ℕ) where
-    pub line-refused : (n : ℕ) → planOf file ≡ plan.Refused n → Gives (lineAnswer file number (length line)) (lineLine file number line) (written.Refused n) line
-    unfolding lineAnswer lineLine
-    line-refused n e = record { answer-is = rw e; line-is = rw e }
+    abbrev Gives-line : Written → List ℕ → Type 0
+    Gives-line = Gives (lineAnswer file number (length line)) (lineLine file number line)
 
-    pub line-outside : (h : Head) → planOf file ≡ plan.Accepted h → natAbs (h .count) ≤ number →
-        Gives (lineAnswer file number (length line)) (lineLine file number line) (written.Refused 4) line
+    pub line-8 : isPlanFile file ≡ false → Gives-line (written.Refused 8) line
     unfolding lineAnswer lineLine
-    line-outside h e out = let t = le-ltb number (natAbs (h .count)) out in record { answer-is = rw (e, t); line-is = rw (e, t) }
+    line-8 e = record { answer-is = rw e; line-is = rw e }
 
-    pub line-accepted : (h : Head) → planOf file ≡ plan.Accepted h → number < natAbs (h .count) →
-        Gives (lineAnswer file number (length line)) (lineLine file number line)
-        (lentAnswer (lineText (pos number) (recordAt file number)) (length line)) (lentLine (lineText (pos number) (recordAt file number)) line)
+    pub line-4 : isPlanFile file ≡ true → natAbs (trailerOf file .count) ≤ number → Gives-line (written.Refused 4) line
     unfolding lineAnswer lineLine
-    line-accepted h e at = let t = lt-ltb number (natAbs (h .count)) at in record { answer-is = rw (e, t); line-is = rw (e, t) }
+    line-4 e out = let t = le-ltb number (natAbs (trailerOf file .count)) out in record { answer-is = rw (e, t); line-is = rw (e, t) }
+
+    pub line-given : isPlanFile file ≡ true → number < natAbs (trailerOf file .count) →
+        let answer = textNumber (wideFile file) (lineOf file number) (length line) in
+        Gives-line (answered answer (lineOf file number)) (lineAfter answer (lineOf file number) line)
+    unfolding lineAnswer lineLine
+    line-given e at = let t = lt-ltb number (natAbs (trailerOf file .count)) at in record { answer-is = rw (e, t); line-is = rw (e, t) }

@@ -1,8 +1,9 @@
 -- What a file that 8 does not refuse has: its length and its count fit each other, and its radius is one of 0 to 3. Assumes nothing.
-use mathlib.Core.Path.{_≡_}
-use mathlib.Core.Bool.{true, false, _&&_}
+use mathlib.Core.Path.{_≡_, refl}
+use mathlib.Core.Bool.{Bool, true, false, _&&_, cond}
 use mathlib.Core.List.{List}
 use Prim.Native.Nat.{ℕ, _+_, _*_, _≤_}
+use native.Mathlib.Omega.{arith}
 use borrow.Author.Tests.{leb-true}
 use lib.Dec.{T, leb}
 use lib.IntN.{ℤ, pos, natAbs, _+ℤ_, _*ℤ_}
@@ -10,11 +11,12 @@ use lib.ListN.{length}
 use lib.Signed.{nonNeg}
 use Rattle.whole.specs.Numbers.{liesIn}
 use Rattle.whole.specs.Signed.{signed, add-is, times-is, abs-is, nonneg-of}
-use Rattle.whole.specs.Truth.{left-of, right-of, lies-low, lies-high}
+use Rattle.whole.specs.Truth.{left-of, right-of, six-of, lies-low, lies-high}
 use Rattle.limits.specs.Limits.{same, isBlock, isPel}
 use Rattle.plan_file.specs.declared.Trailer.{Trailer}
+use Rattle.plan_file.specs.declared.Head.{Head}
 use Rattle.plan_file.specs.declared.Plan.the-variants as plan
-use Rattle.plan_file.specs.PlanFile.{lengthsHold, trailerHolds, trailerOf, isPlanFile, anyWide, headOf, planOf}
+use Rattle.plan_file.specs.PlanFile.{lengthsHold, trailerHolds, trailerOf, isPlanFile, wideFile, headOf, planOf}
 
 pub record Served (t : Trailer) (bytes : ℕ) : Type 0 where
   pub enough : 32 ≤ bytes
@@ -22,6 +24,8 @@ pub record Served (t : Trailer) (bytes : ℕ) : Type 0 where
   pub counted : 48 * natAbs (t .count) + 32 ≡ bytes
   pub natural : T (nonNeg (t .count))
   pub radius-lies : liesIn (pos 0) (pos 3) (t .radius) ≡ true
+  pub block-in : isBlock (t .width) (t .height) ≡ true
+  pub pel-in : isPel (t .pel) ≡ true
 
 pub record Counted (count : ℤ) (bytes : ℕ) : Type 0 where
   pub long : 48 * natAbs count + 32 ≡ bytes
@@ -42,19 +46,14 @@ lengths-say back count bytes enough e =
       natural = nonneg-of count (omega (signed, add-is back (pos 32), times-is count 48));
     }
 
-pub trailer-says : (t : Trailer) (bytes : ℕ) → trailerHolds t bytes ≡ true → (lengthsHold (t .back) (t .count) bytes ≡ true) × (liesIn (pos 0) (pos 3) (t .radius) ≡ true)
+-- the trailer's rules, one by one
+trailer-says : (t : Trailer) (bytes : ℕ) → trailerHolds t bytes ≡ true →
+    (lengthsHold (t .back) (t .count) bytes ≡ true) × (isBlock (t .width) (t .height) ≡ true) × (isPel (t .pel) ≡ true) × (liesIn (pos 0) (pos 3) (t .radius) ≡ true)
 unfolding trailerHolds
 trailer-says t bytes e =
-    let l = lengthsHold (t .back) (t .count) bytes in
-    let b = isBlock (t .width) (t .height) in
-    let p = isPel (t .pel) in
-    let r = liesIn (pos 0) (pos 3) (t .radius) in
-    let s = liesIn (pos 0) (pos 1) (t .satd) in
-    let f = same (pos 1) (t .form) in
-    let upto-radius = left-of (l && b && p && r) s (left-of (l && b && p && r && s) f e) in (
-      left-of l b (left-of (l && b) p (left-of (l && b && p) r upto-radius)),
-      right-of (l && b && p) r upto-radius,
-    )
+    let a = six-of (lengthsHold (t .back) (t .count) bytes) (isBlock (t .width) (t .height)) (isPel (t .pel)) (liesIn (pos 0) (pos 3) (t .radius))
+    (liesIn (pos 0) (pos 1) (t .satd)) (same (pos 1) (t .form)) e in
+    (a .0, a .1, a .2, a .3)
 
 pub served : (file : List ℕ) → isPlanFile file ≡ true → Served (trailerOf file) (length file)
 unfolding isPlanFile
@@ -70,7 +69,9 @@ served file e =
       most = leb-true n 65536 (right-of (leb 32 n) (leb n 65536) long);
       counted = count .long;
       natural = count .natural;
-      radius-lies = says .1;
+      radius-lies = says .3;
+      block-in = says .1;
+      pel-in = says .2;
     }
 
 -- ---- the three answers
@@ -79,10 +80,23 @@ module _ (file : List ℕ) where
   unfolding planOf
   refused-8 e = rw e
 
-  pub refused-7 : isPlanFile file ≡ true → anyWide (trailerOf file .radius) file (natAbs (trailerOf file .count)) ≡ true → planOf file ≡ plan.Refused 7
+  pub refused-7 : isPlanFile file ≡ true → wideFile file ≡ true → planOf file ≡ plan.Refused 7
   unfolding planOf
   refused-7 e wide = rw (e, wide)
 
-  pub accepted : isPlanFile file ≡ true → anyWide (trailerOf file .radius) file (natAbs (trailerOf file .count)) ≡ false → planOf file ≡ plan.Accepted (headOf file)
+  pub accepted : isPlanFile file ≡ true → wideFile file ≡ false → planOf file ≡ plan.Accepted (headOf file)
   unfolding planOf
   accepted e wide = rw (e, wide)
+
+-- ---- an accepted file: its head is the one that is read of it
+apart : {h : Head} {n : ℕ} → plan.Refused n ≡ plan.Accepted h → ⊥
+apart e = let z : _≡_ {A = ℕ} 0 1 = cc in omega arith
+
+by-tests : (p w : Bool) (x h : Head) → cond p (cond w (plan.Refused 7) (plan.Accepted x)) (plan.Refused 8) ≡ plan.Accepted h → (p ≡ true) × (w ≡ false) × (x ≡ h)
+by-tests true true x h e = absurd (apart e)
+by-tests true false x h e = (refl, refl, cc)
+by-tests false w x h e = absurd (apart e)
+
+pub accepted-says : (file : List ℕ) (h : Head) → planOf file ≡ plan.Accepted h → (isPlanFile file ≡ true) × (wideFile file ≡ false) × (headOf file ≡ h)
+unfolding planOf
+accepted-says file h e = by-tests (isPlanFile file) (wideFile file) (headOf file) h e

@@ -9,15 +9,15 @@ ghost use mathlib.Core.Path.{_≡_};
 ghost use mathlib.Core.Bool.{cond, true};
 ghost use mathlib.Core.List.{_++_};
 ghost use Prim.Native.Nat.{_+_, _*_, _≤_};
-ghost use lib.IntN.{pos};
+ghost use lib.IntN.{pos, natAbs};
 ghost use lib.ListN.{length};
 ghost use Rattle.whole.specs.Numbers.{liesIn};
-ghost use Rattle.report_text.specs.Putting.{Puts, lentAnswer, lentLine};
-ghost use Rattle.plan_file.specs.PlanFile.{wordsAt, recordAt, trailerOf, lengthsHold, trailerHolds, isPlanFile, anyWide, tally, planOf, planNumber};
+ghost use Rattle.report_text.specs.Putting.{Puts};
+ghost use Rattle.plan_file.specs.PlanFile.{wordsAt, recordAt, trailerOf, lengthsHold, trailerHolds, isPlanFile, anyWide, wideFile, tally, headOf, planOf};
 ghost use Rattle.limits.specs.Limits.{same as sameNumber};
 ghost use Rattle.window.specs.Windows.{isBad};
 ghost use Rattle.plan_file.specs.Parts.{frontText, windowsText, backText};
-ghost use Rattle.plan_file.specs.Report.{pairText, offsetText, headText, lineText, headAnswer, lineAnswer, headLine, lineLine};
+ghost use Rattle.plan_file.specs.Report.{pairText, offsetText, headText, lineText, textNumber, answered, lineAfter, headAnswer, lineAnswer, headLine, lineLine};
 
 pub struct Trailer {
     pub back: i32,
@@ -64,7 +64,7 @@ fn words_at(file: &[u8], at: usize) -> Words
     }
 }
 
-pub fn record_at(file: &[u8], number: usize) -> Record
+fn record_at(file: &[u8], number: usize) -> Record
     requires { ⌜ 48 * number + 48 ≤ length (now file) ⌝ }
     ensures { λ r. ⌜ r ≡ recordAt (now (file .entry)) number ⌝ }
 {
@@ -166,31 +166,57 @@ fn searched(file: &[u8], count: usize) -> usize
     found
 }
 
-pub fn check_plan_file(file: &[u8]) -> Plan
-    ensures { λ r. ⌜ r ≡ planOf (now (file .entry)) ⌝ }
+// ---- asked once 8 is not given
+fn count_of(file: &[u8]) -> usize
+    requires { ⌜ isPlanFile (now file) ≡ true ⌝ }
+    ensures { λ r. ⌜ r ≡ natAbs (trailerOf (now (file .entry)) .count) ⌝ }
+    ensures { λ r. ⌜ 48 * r + 32 ≤ length (now (file .entry)) ⌝ }
 {
-    if !is_plan_file(file) {
-        return Plan::Refused(8);
-    }
+    let t = trailer_of(file);
+    let count = t.count;
+    count as usize
+}
+
+fn is_too_wide(file: &[u8]) -> bool
+    requires { ⌜ isPlanFile (now file) ≡ true ⌝ }
+    ensures { λ r. ⌜ r ≡ wideFile (now (file .entry)) ⌝ }
+{
     let t = trailer_of(file);
     let radius = t.radius;
+    any_wide(file, radius, count_of(file))
+}
+
+fn head_of(file: &[u8]) -> Head
+    requires { ⌜ isPlanFile (now file) ≡ true ⌝ }
+    ensures { λ r. ⌜ r ≡ headOf (now (file .entry)) ⌝ }
+{
+    let t = trailer_of(file);
     let count = t.count;
-    let records = count as usize;
-    if any_wide(file, radius, records) {
-        return Plan::Refused(7);
-    }
-    let found = searched(file, records) as i32;
+    let radius = t.radius;
+    let found = searched(file, count_of(file)) as i32;
     let width = t.width;
     let height = t.height;
     let pel = t.pel;
-    Plan::Accepted(Head {
+    Head {
         count: count,
         searched: found,
         width: width,
         height: height,
         pel: pel,
         slots: window::slots_of(radius),
-    })
+    }
+}
+
+pub fn check_plan_file(file: &[u8]) -> Plan
+    ensures { λ r. ⌜ r ≡ planOf (now (file .entry)) ⌝ }
+{
+    if !is_plan_file(file) {
+        return Plan::Refused(8);
+    }
+    if is_too_wide(file) {
+        return Plan::Refused(7);
+    }
+    Plan::Accepted(head_of(file))
 }
 
 fn put_pair(line: &mut [u8], at: usize, label: &[u8], pair: Pair) -> usize
@@ -281,55 +307,56 @@ fn line_text(number: i32, given: Record, text: &mut [u8]) -> usize
     line_back(given, text, at)
 }
 
-fn lay_head(head: Head, line: &mut [u8]) -> Written
-    ensures answer { λ r. ⌜ r ≡ lentAnswer (headText head) (length (now (line .entry))) ⌝ }
-    ensures line { λ _. ⌜ now (line .exit) ≡ lentLine (headText head) (now (line .entry)) ⌝ }
+// 5 is below 7: a window is held against the file only where the line has room.
+fn lay_unless(line: &mut [u8], text: &[u8], wide: bool) -> Written
+    ensures answer { λ r. ⌜ r ≡ answered (textNumber wide (now (text .entry)) (length (now (line .entry)))) (now (text .entry)) ⌝ }
+    ensures line { λ _. ⌜ now (line .exit) ≡ lineAfter (textNumber wide (now (text .entry)) (length (now (line .entry)))) (now (text .entry)) (now (line .entry)) ⌝ }
+{
+    if wide & (text.len() <= line.len()) {
+        return Written::Refused(7);
+    }
+    report_text::lay(line, text)
+}
+
+fn lay_head(head: Head, line: &mut [u8], wide: bool) -> Written
+    ensures answer { λ r. ⌜ r ≡ answered (textNumber wide (headText head) (length (now (line .entry)))) (headText head) ⌝ }
+    ensures line { λ _. ⌜ now (line .exit) ≡ lineAfter (textNumber wide (headText head) (length (now (line .entry)))) (headText head) (now (line .entry)) ⌝ }
 {
     let mut text = [0u8; 192];
     let n = head_text(head, &mut text);
-    report_text::lay(line, &text[..n])
+    lay_unless(line, &text[..n], wide)
 }
 
-fn lay_line(number: i32, given: Record, line: &mut [u8]) -> Written
-    ensures answer { λ r. ⌜ r ≡ lentAnswer (lineText number given) (length (now (line .entry))) ⌝ }
-    ensures line { λ _. ⌜ now (line .exit) ≡ lentLine (lineText number given) (now (line .entry)) ⌝ }
+fn lay_line(number: i32, given: Record, line: &mut [u8], wide: bool) -> Written
+    ensures answer { λ r. ⌜ r ≡ answered (textNumber wide (lineText number given) (length (now (line .entry)))) (lineText number given) ⌝ }
+    ensures line { λ _. ⌜ now (line .exit) ≡ lineAfter (textNumber wide (lineText number given) (length (now (line .entry)))) (lineText number given) (now (line .entry)) ⌝ }
 {
     let mut text = [0u8; 192];
     let n = line_text(number, given, &mut text);
-    report_text::lay(line, &text[..n])
-}
-
-fn refusal_of(plan: Plan) -> u32
-    ensures { λ r. ⌜ r ≡ planNumber plan ⌝ }
-{
-    let Plan::Refused(number) = plan else {
-        return 0;
-    };
-    number
+    lay_unless(line, &text[..n], wide)
 }
 
 pub fn report_head(file: &[u8], line: &mut [u8]) -> Written
     ensures answer { λ r. ⌜ r ≡ headAnswer (now (file .entry)) (length (now (line .entry))) ⌝ }
     ensures line { λ _. ⌜ now (line .exit) ≡ headLine (now (file .entry)) (now (line .entry)) ⌝ }
 {
-    let plan = check_plan_file(file);
-    let Plan::Accepted(head) = plan else {
-        return Written::Refused(refusal_of(plan));
-    };
-    lay_head(head, line)
+    if !is_plan_file(file) {
+        return Written::Refused(8);
+    }
+    let wide = is_too_wide(file);
+    lay_head(head_of(file), line, wide)
 }
 
 pub fn report_line(file: &[u8], number: usize, line: &mut [u8]) -> Written
     ensures answer { λ r. ⌜ r ≡ lineAnswer (now (file .entry)) number (length (now (line .entry))) ⌝ }
     ensures line { λ _. ⌜ now (line .exit) ≡ lineLine (now (file .entry)) number (now (line .entry)) ⌝ }
 {
-    let plan = check_plan_file(file);
-    let Plan::Accepted(head) = plan else {
-        return Written::Refused(refusal_of(plan));
-    };
-    let count = head.count;
-    if number < count as usize {
-        return lay_line(number as i32, record_at(file, number), line);
+    if !is_plan_file(file) {
+        return Written::Refused(8);
     }
-    Written::Refused(4)
+    if count_of(file) <= number {
+        return Written::Refused(4);
+    }
+    let wide = is_too_wide(file);
+    lay_line(number as i32, record_at(file, number), line, wide)
 }

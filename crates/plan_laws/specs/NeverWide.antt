@@ -5,25 +5,20 @@ use mathlib.Core.List.{List, _++_}
 use Prim.Native.Nat.{ℕ, zero, suc, _<_, _≤_}
 use native.Mathlib.Omega.{arith}
 use lib.IntN.{ℤ}
-use Rattle.limits.specs.Refusals.{anyUpto}
+use Rattle.limits.specs.Limits.{radiusOf}
+use Rattle.limits.specs.Refused.{none-passes}
 use Rattle.records.specs.declared.Record.{Record}
 use Rattle.window.specs.Windows.{isWide}
 use Rattle.record_slice.specs.RecordSlice.{recordAt, anyWide}
 use Rattle.block.specs.declared.Settings.{Settings}
-use Rattle.block.specs.Shapes.{radiusOf}
 use Rattle.passes.specs.Fold.{blockAt, slotsAt, allFit, wordsUpto}
 use Rattle.plan_laws.specs.Windows.{planned-narrow}
 use Rattle.plan_laws.specs.ReadBack.{planned, record-read}
 
-none-holds : (test : ℕ → Bool) (n : ℕ) → ((i : ℕ) → i < n → test i ≡ false) → anyUpto test n ≡ false
-unfolding anyUpto
-none-holds test zero h = refl
-none-holds test (suc n) h = rw (none-holds test n (λ i l. h i (omega arith)), h n (omega arith))
-
 module _ (s : Settings) (order vectors : List ℤ) where
-  pub never-wide : (n : ℕ) (tail : List ℤ) → allFit s order vectors n ≡ true → anyWide (radiusOf (s .search)) (wordsUpto s order vectors n ++ tail) n ≡ false
+  pub never-wide : (n : ℕ) (tail : List ℤ) → allFit s order vectors n ≡ true → anyWide (radiusOf (s .search .«search_param»)) (wordsUpto s order vectors n ++ tail) n ≡ false
   never-wide n tail fit =
-      none-holds (λ i. isWide (radiusOf (s .search)) (recordAt (wordsUpto s order vectors n ++ tail) i)) n
+      none-passes (λ i. isWide (radiusOf (s .search .«search_param»)) (recordAt (wordsUpto s order vectors n ++ tail) i)) n
       (λ i l.
-      ap (isWide (radiusOf (s .search))) (record-read s order vectors n i tail l fit)
+      ap (isWide (radiusOf (s .search .«search_param»))) (record-read s order vectors n i tail l fit)
       ∙ planned-narrow s (blockAt (s .grid) order vectors i) (slotsAt s order vectors i))

@@ -4,6 +4,7 @@ use mathlib.Core.Path.{_≡_, refl, sym, ap, _∙_}
 use mathlib.Core.Bool.{Bool, true, false, _&&_, _||_, cond}
 use lib.IntN.{ℤ, pos, _+ℤ_, _-ℤ_, _*ℤ_}
 use lib.Signed.{ltZ, leZ, _≤ℤ_}
+use Rattle.limits.specs.Limits.{radiusOf}
 use Rattle.whole.specs.Numbers.{lesserOf, greaterOf}
 use Rattle.whole.specs.Signed.{P, N, signed, add-is, diff-is, times-is}
 use Rattle.records.specs.declared.Offset.{Offset}
@@ -15,7 +16,7 @@ use Rattle.axis.specs.Axis.{leastOf, endOf, windowOf}
 use Rattle.block.specs.declared.Settings.{Settings}
 use Rattle.block.specs.declared.Block.{Block}
 use Rattle.block.specs.declared.Shape.{Shape}
-use Rattle.block.specs.Shapes.{radiusOf, axisOf, shapeOf, lambdaOf, movesOf, spotOf}
+use Rattle.block.specs.Shapes.{axisOf, shapeOf, lambdaOf, movesOf, spotOf}
 use Rattle.block.specs.Shapes.{isBad as blockIsBad}
 use Rattle.block.specs.Steps.{quietRecord, badRecord, badStep, lumaStep, quietStep, stepWith, stepOf}
 
@@ -68,32 +69,32 @@ unfolding isWide
 quiet-narrow radius b negative lambda average = rw (quiet-not-bad b negative lambda average)
 
 module _ (s : Settings) (b : Block) (t : Slots) where
-  across-radius : shapeOf s b .across .radius ≡ radiusOf (s .search)
+  across-radius : shapeOf s b .across .radius ≡ radiusOf (s .search .«search_param»)
   unfolding shapeOf axisOf
   across-radius = refl
 
-  down-radius : shapeOf s b .down .radius ≡ radiusOf (s .search)
+  down-radius : shapeOf s b .down .radius ≡ radiusOf (s .search .«search_param»)
   unfolding shapeOf axisOf
   down-radius = refl
 
-  bad-narrow : (lambda : ℤ) → isWide (radiusOf (s .search)) (badStep (s .planes) (s .shift) b (shapeOf s b) lambda t .made) ≡ false
+  bad-narrow : (lambda : ℤ) → isWide (radiusOf (s .search .«search_param»)) (badStep (s .planes) (s .shift) b (shapeOf s b) lambda t .made) ≡ false
   unfolding isWide badStep badRecord
   bad-narrow lambda =
       let h = shapeOf s b in
       let spot = spotOf (s .shift) (movesOf h) h in
       right-false (isBad (badStep (s .planes) (s .shift) b h lambda t .made))
-      (neither-wide (mostOf (radiusOf (s .search))) (sideOf (windowOf (h .across) (spot .x))) (sideOf (windowOf (h .down) (spot .y)))
+      (neither-wide (mostOf (radiusOf (s .search .«search_param»))) (sideOf (windowOf (h .across) (spot .x))) (sideOf (windowOf (h .down) (spot .y)))
       (sym (ap (λ (r : ℤ). ltZ (mostOf r) (sideOf (windowOf (h .across) (spot .x)))) across-radius) ∙ window-narrow (h .across) (spot .x))
       (sym (ap (λ (r : ℤ). ltZ (mostOf r) (sideOf (windowOf (h .down) (spot .y)))) down-radius) ∙ window-narrow (h .down) (spot .y)))
 
-  pub planned-narrow : isWide (radiusOf (s .search)) (stepOf s b t .made) ≡ false
+  pub planned-narrow : isWide (radiusOf (s .search .«search_param»)) (stepOf s b t .made) ≡ false
   unfolding stepOf stepWith lumaStep quietStep
   planned-narrow = by (blockIsBad (s .weights) (shapeOf s b .negative) (b .sad)) (s .level .«need_luma»)
     where
       by : (bad need : Bool) →
-          isWide (radiusOf (s .search))
+          isWide (radiusOf (s .search .«search_param»))
           (cond bad (badStep (s .planes) (s .shift) b (shapeOf s b) (lambdaOf (s .weights) (shapeOf s b .negative)) t)
           (cond need (lumaStep (s .planes .luma) b (shapeOf s b) (lambdaOf (s .weights) (shapeOf s b .negative)) t) (quietStep b (shapeOf s b .negative) (lambdaOf (s .weights) (shapeOf s b .negative)) t)) .made) ≡ false
       by true need = bad-narrow (lambdaOf (s .weights) (shapeOf s b .negative))
-      by false true = quiet-narrow (radiusOf (s .search)) b (shapeOf s b .negative) (lambdaOf (s .weights) (shapeOf s b .negative)) _
-      by false false = quiet-narrow (radiusOf (s .search)) b (shapeOf s b .negative) (lambdaOf (s .weights) (shapeOf s b .negative)) _
+      by false true = quiet-narrow (radiusOf (s .search .«search_param»)) b (shapeOf s b .negative) (lambdaOf (s .weights) (shapeOf s b .negative)) _
+      by false false = quiet-narrow (radiusOf (s .search .«search_param»)) b (shapeOf s b .negative) (lambdaOf (s .weights) (shapeOf s b .negative)) _

@@ -10,12 +10,12 @@ use lib.Signed.{mag}
 use mir.Syntax.{Width, w32, w64}
 use mir.Val.{SFits, toZ, ofZ, hbits}
 use mir.Facts.{toZ-pos}
+use Rattle.limits.specs.Ranges.{at-each-pel}
 use Rattle.whole.specs.Numbers.{modZ}
 use Rattle.whole.specs.Signed.{got}
 use Rattle.whole.specs.Interval.{Within, within-more, Is}
 use Rattle.whole.specs.Wrapping.{masked}
 use Rattle.limits.specs.Limits.{isPel}
-use Rattle.plane.specs.Offsets.{at-each-pel}
 
 -- a number kept in 64 bits, and read back
 abbrev pub kept : ℤ → ℤ

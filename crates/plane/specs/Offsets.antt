@@ -1,6 +1,6 @@
 -- Laws of Places: one formula for every pel, that an accepted plane's offsets are near, and that the length rule can be asked without a sum. Assumes nothing.
 use mathlib.Core.Path.{_≡_, refl, sym, ap, _∙_}
-use mathlib.Core.Bool.{Bool, true, false, _||_}
+use mathlib.Core.Bool.{Bool, true, false}
 use mathlib.Core.Logic.{_⊎_, inl, inr, ⊎-elim}
 use Prim.Native.Nat.{ℕ, suc, _+_, _-_, _*_, _≤_, _<_}
 use native.Mathlib.Omega.{arith}
@@ -16,35 +16,11 @@ use Rattle.whole.specs.Truth.{left-of, right-of, lies-low, lies-high}
 use Rattle.whole.specs.Floor.{mod-below, fit-floor}
 use Rattle.whole.specs.Interval.{Within, within-32, within-more, within-add, within-times}
 use Rattle.limits.specs.Limits.{isPel, isPitch, isLength, greatestLength}
+use Rattle.limits.specs.Ranges.{at-each-pel, pel-within}
 use Rattle.plane.specs.declared.Place.{Place}
 use Rattle.plane.specs.Places.{limitsHold, lastEnd, keepsLength, pel1Of, subpelOf, Placed, Near}
 
--- ---- the three pels
-either-true : (a b : Bool) → (a || b) ≡ true → (a ≡ true) ⊎ (b ≡ true)
-either-true true b e = inl refl
-either-true false b e = inr e
-
-one-or-two : (z : ℤ) → liesIn (pos 1) (pos 2) z ≡ true → (z ≡ pos 1) ⊎ (z ≡ pos 2)
-one-or-two z e =
-    let low = lies-low (pos 1) (pos 2) z e in
-    let high = lies-high (pos 1) (pos 2) z e in
-    ⊎-elim (λ l. inl (omega signed)) (λ l. inr (omega signed)) (lt-or-ge (P z) (2 + N z))
-
-pub pel-cases : (pel : ℤ) → isPel pel ≡ true → (pel ≡ pos 1) ⊎ ((pel ≡ pos 2) ⊎ (pel ≡ pos 4))
-pel-cases pel e =
-    ⊎-elim
-    (λ h. ⊎-elim inl (λ k. inr (inl k)) (one-or-two pel h))
-    (λ h. let low = lies-low (pos 4) (pos 4) pel h in let high = lies-high (pos 4) (pos 4) pel h in inr (inr (omega signed)))
-    (either-true (liesIn (pos 1) (pos 2) pel) (liesIn (pos 4) (pos 4) pel) e)
-
--- what holds at each of the three holds at every pel
-pub at-each-pel : (Q : ℤ → Type 0) → Q (pos 1) → Q (pos 2) → Q (pos 4) → (pel : ℤ) → isPel pel ≡ true → Q pel
-at-each-pel Q one two four pel e =
-    ⊎-elim (λ h. rw h one) (⊎-elim (λ h. rw h two) (λ h. rw h four)) (pel-cases pel e)
-
-pub pel-within : (pel : ℤ) → isPel pel ≡ true → Within 0 4 pel
-pel-within pel e = at-each-pel (λ z. Within 0 4 z) (omega arith) (omega arith) (omega arith) pel e
-
+-- ---- what a division by pel leaves
 pub mod-within : (pel : ℤ) → isPel pel ≡ true → (z : ℤ) → Within 0 3 (pos (modZ z (natAbs pel)))
 mod-within pel e z =
     at-each-pel (λ (k : ℤ). Within 0 3 (pos (modZ z (natAbs k))))

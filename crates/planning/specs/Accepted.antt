@@ -11,22 +11,22 @@ use lib.Dec.{eqb, leb, lit<}
 use lib.IntN.{ℤ, pos, negsuc, natAbs, _+ℤ_, _-ℤ_, _*ℤ_}
 use lib.ListN.{length, getD}
 use lib.Signed.{ltZ, leZ, shrZ, _≤ℤ_, _<ℤ_}
-use Rattle.whole.specs.Numbers.{liesIn}
+use Rattle.limits.specs.Ranges.{pel-within}
+use Rattle.whole.specs.Numbers.{liesIn, fitsI16}
 use Rattle.whole.specs.Signed.{P, N, signed, abs-is}
 use Rattle.whole.specs.Truth.{left-of, right-of, either-of, lies-low, lies-high, three-of, four-of, five-of, six-of}
-use Rattle.whole.specs.Tests.{allUpto, each-of}
 use Rattle.whole.specs.Floor.{floor-low, floor-high}
 use Rattle.whole.specs.Interval.{Within}
-use Rattle.limits.specs.Limits.{same, isBlock, isGridSide, isStep, isFrameSide, isPel, areShifts, shiftedBy, isLength, isComponent, greatestLength}
+use Rattle.limits.specs.Limits.{same, isBlock, isGridSide, isStep, isFrameSide, isPel, areShifts, shiftedBy, isLength, greatestLength}
 use Rattle.limits.specs.Refusals.{first}
-use Rattle.limits.specs.Refused.{first-passed}
+use Rattle.limits.specs.Refused.{first-passed, each-passes}
 use Rattle.score.specs.declared.Answer.{Answer}
 use Rattle.score.specs.declared.Answer.the-variants.{Is}
 use Rattle.score.specs.declared.Answer.the-variants as diagonal
 use Rattle.score.specs.Diagonal.{frameFits, diagonalOf, diagonalAnswer, answerNumber}
 use Rattle.plane.specs.declared.Place.{Place}
 use Rattle.plane.specs.Places.{limitsHold, lastEnd, keepsLength, Placed}
-use Rattle.plane.specs.Offsets.{pel-within, accepted-placed}
+use Rattle.plane.specs.Offsets.{accepted-placed}
 use Rattle.block.specs.declared.Sides.{Sides}
 use Rattle.block.specs.declared.Planes.{Planes}
 use Rattle.block.specs.declared.Settings.{Settings}
@@ -36,7 +36,7 @@ use Rattle.passes.specs.Asked.{Listed, Serves, Served}
 use Rattle.planning.specs.declared.Made.{Made}
 use Rattle.planning.specs.declared.Planned.the-variants.{Done, Refused}
 use Rattle.planning.specs.Planned.{answered}
-use Rattle.planning.specs.Refusals.{countOf, holds1, axisHolds, sidesHold, chromaHolds, planesHold, holds2, vectorFits, vectorsFit, holds3, entryHolds, orderHolds, hasRoom, refusalOf}
+use Rattle.planning.specs.Refusals.{blockCount, holds1, axisHolds, sidesHold, chromaHolds, planesHold, holds2, vectorFits, vectorsFit, holds3, entryHolds, orderHolds, hasRoom, refusalOf}
 
 -- ---- a number from least to greatest, both ways of saying it
 lies : (least greatest z : ℤ) → liesIn least greatest z ≡ true → (least ≤ℤ z) × (z ≤ℤ greatest)
@@ -144,8 +144,8 @@ pub record Set (s : Settings) : Type 0 where
 pub settings : (s : Settings) (listed held : ℕ) → holds1 s listed ≡ true → holds2 s held ≡ true → Set s
 unfolding holds1 holds2
 settings s listed held e f =
-    let t = six-of (s .search .exhaustive) (isBlock (s .block .x) (s .block .y)) (leZ (pos 2) (s .grid .x)) (leZ (pos 2) (s .grid .y)) (eqb listed (2 * countOf (s .grid))) (liesIn (negsuc 2) (pos 3) (s .search .«search_param»)) e in
-    let u = five-of (sidesHold s) (isPel (s .level .pel)) (areShifts (s .shift .x) (s .shift .y)) (planesHold (s .planes) (s .shift)) (eqb held (3 * countOf (s .grid))) f in
+    let t = six-of (s .search .exhaustive) (isBlock (s .block .x) (s .block .y)) (leZ (pos 2) (s .grid .x)) (leZ (pos 2) (s .grid .y)) (eqb listed (2 * blockCount (s .grid))) (liesIn (negsuc 2) (pos 3) (s .search .«search_param»)) e in
+    let u = five-of (sidesHold s) (isPel (s .level .pel)) (areShifts (s .shift .x) (s .shift .y)) (planesHold (s .planes) (s .shift)) (eqb held (3 * blockCount (s .grid))) f in
     let x = axisHolds (s .grid .x) (s .step .x) (s .block .x) (s .planes .luma .width) in
     let y = axisHolds (s .grid .y) (s .step .y) (s .block .y) (s .planes .luma .height) in
     let sides = block-sides (s .block .x) (s .block .y) (t .1) in
@@ -163,33 +163,25 @@ settings s listed held e f =
     }
 
 -- ---- the count, and the lengths
-pub count-is : {s : Settings} → Set s → countOf (s .grid) ≡ natAbs (s .grid .x) * natAbs (s .grid .y)
-count-is {s} k =
-    let a = k .across .count-least in
-    let b = k .down .count-least in
-    let p : ltZ (s .grid .x) (pos 2) ≡ false = omega signed in
-    let q : ltZ (s .grid .y) (pos 2) ≡ false = omega signed in
-    simp (p, q)
-
-pub count-small : {s : Settings} → Set s → countOf (s .grid) ≤ 4194304
+pub count-small : {s : Settings} → Set s → blockCount (s .grid) ≤ 4194304
 count-small {s} k =
     let x = k .across in
     let y = k .down in
     let a : natAbs (s .grid .x) ≤ 2048 = omega (signed, abs-is (s .grid .x)) in
     let b : natAbs (s .grid .y) ≤ 2048 = omega (signed, abs-is (s .grid .y)) in
-    omega (arith, count-is k, mul-le-mul a b)
+    mul-le-mul a b
 
-pub listed-is : (s : Settings) (listed : ℕ) → holds1 s listed ≡ true → listed ≡ 2 * countOf (s .grid)
+pub listed-is : (s : Settings) (listed : ℕ) → holds1 s listed ≡ true → listed ≡ 2 * blockCount (s .grid)
 unfolding holds1
 listed-is s listed e =
-    eqb-true listed (2 * countOf (s .grid))
-    (six-of (s .search .exhaustive) (isBlock (s .block .x) (s .block .y)) (leZ (pos 2) (s .grid .x)) (leZ (pos 2) (s .grid .y)) (eqb listed (2 * countOf (s .grid))) (liesIn (negsuc 2) (pos 3) (s .search .«search_param»)) e .4)
+    eqb-true listed (2 * blockCount (s .grid))
+    (six-of (s .search .exhaustive) (isBlock (s .block .x) (s .block .y)) (leZ (pos 2) (s .grid .x)) (leZ (pos 2) (s .grid .y)) (eqb listed (2 * blockCount (s .grid))) (liesIn (negsuc 2) (pos 3) (s .search .«search_param»)) e .4)
 
-pub held-is : (s : Settings) (held : ℕ) → holds2 s held ≡ true → held ≡ 3 * countOf (s .grid)
+pub held-is : (s : Settings) (held : ℕ) → holds2 s held ≡ true → held ≡ 3 * blockCount (s .grid)
 unfolding holds2
 held-is s held e =
-    eqb-true held (3 * countOf (s .grid))
-    (five-of (sidesHold s) (isPel (s .level .pel)) (areShifts (s .shift .x) (s .shift .y)) (planesHold (s .planes) (s .shift)) (eqb held (3 * countOf (s .grid))) e .4)
+    eqb-true held (3 * blockCount (s .grid))
+    (five-of (sidesHold s) (isPel (s .level .pel)) (areShifts (s .shift .x) (s .shift .y)) (planesHold (s .planes) (s .shift)) (eqb held (3 * blockCount (s .grid))) e .4)
 
 -- ---- an entry of the order
 pub record Entry (grid : Sides) (order : List ℤ) (i : ℕ) : Type 0 where
@@ -211,33 +203,33 @@ entry grid order i e =
     record { x-least = omega signed; x-most = omega signed; y-least = omega signed; y-most = omega signed }
 
 -- its index is below the count
-index-below : {s : Settings} {order : List ℤ} {i : ℕ} → Set s → Entry (s .grid) order i → indexAt (s .grid) order i < countOf (s .grid)
+index-below : {s : Settings} {order : List ℤ} {i : ℕ} → Set s → Entry (s .grid) order i → indexAt (s .grid) order i < blockCount (s .grid)
 index-below {s} {order} {i} k p =
     let x = getD order (2 * i) (pos 0) in
     let y = getD order (2 * i + 1) (pos 0) in
     let a : natAbs x < natAbs (s .grid .x) = omega (signed, abs-is x, abs-is (s .grid .x)) in
     let b : suc (natAbs y) ≤ natAbs (s .grid .y) = omega (signed, abs-is y, abs-is (s .grid .y)) in
     let m : natAbs (s .grid .x) * suc (natAbs y) ≤ natAbs (s .grid .x) * natAbs (s .grid .y) = mul-le-mul (omega arith) b in
-    omega (arith, count-is k, m, mul-comm (natAbs (s .grid .x)) (natAbs y))
+    omega (arith, m, mul-comm (natAbs (s .grid .x)) (natAbs y))
 
 -- ---- what the passes ask of each block
 pub served : (s : Settings) (order vectors : List ℤ) (luma u v : ℕ) → holds1 s (length order) ≡ true → holds2 s (length vectors) ≡ true →
-    vectorsFit vectors (countOf (s .grid)) ≡ true → holds3 (s .planes) luma u v ≡ true → orderHolds (s .grid) order (countOf (s .grid)) ≡ true →
-    Served s order vectors (countOf (s .grid))
+    vectorsFit vectors (blockCount (s .grid)) ≡ true → holds3 (s .planes) luma u v ≡ true → orderHolds (s .grid) order (blockCount (s .grid)) ≡ true →
+    Served s order vectors (blockCount (s .grid))
 unfolding planesHold chromaHolds holds3 vectorFits blockAt
 served s order vectors luma u v e₁ e₂ e₂′ e₃ e₄ i l =
     let k = settings s (length order) (length vectors) e₁ e₂ in
     let p = s .planes in
     let x = getD order (2 * i) (pos 0) in
     let y = getD order (2 * i + 1) (pos 0) in
-    let w = entry (s .grid) order i (each-of (entryHolds (s .grid) order) i (countOf (s .grid)) e₄ l) in
+    let w = entry (s .grid) order i (each-passes (entryHolds (s .grid) order) (blockCount (s .grid)) i e₄ l) in
     let n = indexAt (s .grid) order i in
     let m = index-below k w in
     let vx = getD vectors (3 * n) (pos 0) in
     let vy = getD vectors (3 * n + 1) (pos 0) in
-    let fit = each-of (vectorFits vectors) n (countOf (s .grid)) e₂′ m in
-    let px = lies (negsuc 32767) (pos 32767) vx (left-of (isComponent vx) (isComponent vy) fit) in
-    let py = lies (negsuc 32767) (pos 32767) vy (right-of (isComponent vx) (isComponent vy) fit) in
+    let fit = each-passes (vectorFits vectors) (blockCount (s .grid)) n e₂′ m in
+    let px = lies (negsuc 32767) (pos 32767) vx (left-of (fitsI16 vx) (fitsI16 vy) fit) in
+    let py = lies (negsuc 32767) (pos 32767) vy (right-of (fitsI16 vx) (fitsI16 vy) fit) in
     let t = five-of (limitsHold (p .luma)) (limitsHold (p .u)) (limitsHold (p .v)) (chromaHolds (p .luma) (s .shift) (p .u)) (chromaHolds (p .luma) (s .shift) (p .v)) (k .planes) in
     let lengths = three-of (keepsLength (p .luma) luma) (keepsLength (p .u) u) (keepsLength (p .v) v) e₃ in
     let width = p .luma .width in
@@ -308,18 +300,18 @@ passed : (t : Bool) (k rest : ℕ) → first (not t) (1 + k) rest ≡ 0 → (t �
 passed t k rest e = let both = first-passed (not t) k rest e in (not-false t (both .0), both .1)
 
 pub record Accepted (s : Settings) (order vectors : List ℤ) (words indices : ℕ) : Type 0 where
-  pub serves : Served s order vectors (countOf (s .grid))
-  pub room : 12 * countOf (s .grid) ≤ words
-  pub rows : countOf (s .grid) ≤ indices
+  pub serves : Served s order vectors (blockCount (s .grid))
+  pub room : 12 * blockCount (s .grid) ≤ words
+  pub rows : blockCount (s .grid) ≤ indices
   pub framed : Framed s
-  pub fit : allFit s order vectors (countOf (s .grid)) ≡ true
+  pub fit : allFit s order vectors (blockCount (s .grid)) ≡ true
   pub set : Set s
-  pub held : length vectors ≡ 3 * countOf (s .grid)
+  pub held : length vectors ≡ 3 * blockCount (s .grid)
 
 pub accepted : (s : Settings) (order vectors : List ℤ) (luma u v words indices : ℕ) → refusalOf s order vectors luma u v words indices ≡ 0 → Accepted s order vectors words indices
 unfolding refusalOf
 accepted s order vectors luma u v words indices e =
-    let n = countOf (s .grid) in
+    let n = blockCount (s .grid) in
     let t₁ = passed (holds1 s (length order)) 0 _ e in
     let t₂ = passed (holds2 s (length vectors) && vectorsFit vectors n) 1 _ (t₁ .1) in
     let t₃ = passed (holds3 (s .planes) luma u v) 2 _ (t₂ .1) in

@@ -6,10 +6,9 @@ use lib.Dec.{eqb, leb}
 use lib.IntN.{ℤ, pos, negsuc, natAbs, _+ℤ_, _-ℤ_, _*ℤ_}
 use lib.ListN.{length, getD}
 use lib.Signed.{ltZ, leZ}
-use Rattle.whole.specs.Numbers.{liesIn}
-use Rattle.whole.specs.Tests.{allUpto}
-use Rattle.limits.specs.Limits.{same, isBlock, isGridSide, isStep, isFrameSide, isPel, areShifts, shiftedBy, isComponent}
-use Rattle.limits.specs.Refusals.{first}
+use Rattle.whole.specs.Numbers.{liesIn, fitsI16}
+use Rattle.limits.specs.Limits.{same, isBlock, blocksOf, isGridSide, isStep, isFrameSide, isPel, areShifts, shiftedBy}
+use Rattle.limits.specs.Refusals.{first, anyUpto}
 use Rattle.plane.specs.declared.Place.{Place}
 use Rattle.plane.specs.Places.{limitsHold, keepsLength}
 use Rattle.block.specs.declared.Sides.{Sides}
@@ -17,9 +16,9 @@ use Rattle.block.specs.declared.Planes.{Planes}
 use Rattle.block.specs.declared.Settings.{Settings}
 use Rattle.passes.specs.Fold.{allFit}
 
--- the blocks of a grid: the exact product of its sides. One with a side below 2 is refused with 1, whatever its count.
-abbrev pub countOf : Sides → ℕ
-countOf grid = cond (ltZ (grid .x) (pos 2)) 0 (cond (ltZ (grid .y) (pos 2)) 0 (natAbs (grid .x) * natAbs (grid .y)))
+-- the blocks of a grid
+abbrev pub blockCount : Sides → ℕ
+blockCount grid = blocksOf (grid .x) (grid .y)
 
 -- ---- "1: search not exhaustive, another block size, a grid side below 2, order length not the block count, or radius over 3"
 -- The order is flat, two numbers a block.
@@ -29,7 +28,7 @@ holds1 s listed =
     && isBlock (s .block .x) (s .block .y)
     && leZ (pos 2) (s .grid .x)
     && leZ (pos 2) (s .grid .y)
-    && eqb listed (2 * countOf (s .grid))
+    && eqb listed (2 * blockCount (s .grid))
     && liesIn (negsuc 2) (pos 3) (s .search .«search_param»)
 
 -- ---- "2: another number outside the limits above .., vector count not the block count"
@@ -54,20 +53,20 @@ planesHold p shift =
 -- "Pel 1, 2 or 4. Chroma shifts (0,0), (1,0) or (1,1)". The vectors are flat, three numbers a block.
 unfoldable pub holds2 : Settings → ℕ → Bool
 holds2 s held =
-    sidesHold s && isPel (s .level .pel) && areShifts (s .shift .x) (s .shift .y) && planesHold (s .planes) (s .shift) && eqb held (3 * countOf (s .grid))
+    sidesHold s && isPel (s .level .pel) && areShifts (s .shift .x) (s .shift .y) && planesHold (s .planes) (s .shift) && eqb held (3 * blockCount (s .grid))
 
--- "Vector components fit i16." Also those of blocks that the order never names.
+-- "Vector components fit i16." None is outside, also of blocks that the order never names.
 unfoldable pub vectorFits : List ℤ → ℕ → Bool
-vectorFits vectors i = isComponent (getD vectors (3 * i) (pos 0)) && isComponent (getD vectors (3 * i + 1) (pos 0))
+vectorFits vectors i = fitsI16 (getD vectors (3 * i) (pos 0)) && fitsI16 (getD vectors (3 * i + 1) (pos 0))
 
 abbrev pub vectorsFit : List ℤ → ℕ → Bool
-vectorsFit vectors n = allUpto (vectorFits vectors) n
+vectorsFit vectors n = not (anyUpto (λ i. not (vectorFits vectors i)) n)
 
 -- ---- "3: a plane breaks its length rule"
 unfoldable pub holds3 : Planes → ℕ → ℕ → ℕ → Bool
 holds3 p luma u v = keepsLength (p .luma) luma && keepsLength (p .u) u && keepsLength (p .v) v
 
--- ---- "4: an order entry .. outside the grid given"
+-- ---- "4: an order entry .. outside the grid given": none is
 unfoldable pub entryHolds : Sides → List ℤ → ℕ → Bool
 entryHolds grid order i =
     leZ (pos 0) (getD order (2 * i) (pos 0))
@@ -76,7 +75,7 @@ entryHolds grid order i =
     && ltZ (getD order (2 * i + 1) (pos 0)) (grid .y)
 
 abbrev pub orderHolds : Sides → List ℤ → ℕ → Bool
-orderHolds grid order n = allUpto (entryHolds grid order) n
+orderHolds grid order n = not (anyUpto (λ i. not (entryHolds grid order i)) n)
 
 -- ---- "5: a lent output is too short": 12 words and an index a block
 abbrev pub hasRoom : ℕ → ℕ → ℕ → Bool
@@ -85,7 +84,7 @@ hasRoom n words indices = leb (12 * n) words && leb n indices
 -- ---- "If several apply, the lowest is given". 6: "in planning .., a record doesn't fit"
 unfoldable pub refusalOf : Settings → List ℤ → List ℤ → ℕ → ℕ → ℕ → ℕ → ℕ → ℕ
 refusalOf s order vectors luma u v words indices =
-    let n = countOf (s .grid) in
+    let n = blockCount (s .grid) in
     first (not (holds1 s (length order))) 1
     (first (not (holds2 s (length vectors) && vectorsFit vectors n)) 2
     (first (not (holds3 (s .planes) luma u v)) 3

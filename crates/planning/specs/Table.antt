@@ -9,7 +9,7 @@ use lib.ListN.{length}
 use Rattle.limits.specs.Refusals.{first}
 use Rattle.block.specs.declared.Settings.{Settings}
 use Rattle.passes.specs.Fold.{allFit}
-use Rattle.planning.specs.Refusals.{countOf, holds1, holds2, vectorsFit, holds3, orderHolds, hasRoom, refusalOf}
+use Rattle.planning.specs.Refusals.{blockCount, holds1, holds2, vectorsFit, holds3, orderHolds, hasRoom, refusalOf}
 
 -- a number, by the six tests in the table's order: where each of them refuses
 pub record Exactly (one two three four five six : Bool) (number : ℕ) : Type 0 where
@@ -31,10 +31,10 @@ exactly false false false false false true = record { is-1 = refl; is-2 = refl; 
 exactly false false false false false false = record { is-1 = refl; is-2 = refl; is-3 = refl; is-4 = refl; is-5 = refl; is-6 = refl; is-0 = refl }
 
 pub given-exactly : (s : Settings) (order vectors : List ℤ) (luma u v words indices : ℕ) →
-    Exactly (not (holds1 s (length order))) (not (holds2 s (length vectors) && vectorsFit vectors (countOf (s .grid)))) (not (holds3 (s .planes) luma u v))
-    (not (orderHolds (s .grid) order (countOf (s .grid)))) (not (hasRoom (countOf (s .grid)) words indices)) (not (allFit s order vectors (countOf (s .grid))))
+    Exactly (not (holds1 s (length order))) (not (holds2 s (length vectors) && vectorsFit vectors (blockCount (s .grid)))) (not (holds3 (s .planes) luma u v))
+    (not (orderHolds (s .grid) order (blockCount (s .grid)))) (not (hasRoom (blockCount (s .grid)) words indices)) (not (allFit s order vectors (blockCount (s .grid))))
     (refusalOf s order vectors luma u v words indices)
 unfolding refusalOf
 given-exactly s order vectors luma u v words indices =
-    exactly (not (holds1 s (length order))) (not (holds2 s (length vectors) && vectorsFit vectors (countOf (s .grid)))) (not (holds3 (s .planes) luma u v))
-    (not (orderHolds (s .grid) order (countOf (s .grid)))) (not (hasRoom (countOf (s .grid)) words indices)) (not (allFit s order vectors (countOf (s .grid))))
+    exactly (not (holds1 s (length order))) (not (holds2 s (length vectors) && vectorsFit vectors (blockCount (s .grid)))) (not (holds3 (s .planes) luma u v))
+    (not (orderHolds (s .grid) order (blockCount (s .grid)))) (not (hasRoom (blockCount (s .grid)) words indices)) (not (allFit s order vectors (blockCount (s .grid))))

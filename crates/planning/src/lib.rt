@@ -7,7 +7,7 @@ use score::Answer;
 ghost use mathlib.Core.Path.{_≡_};
 ghost use Prim.Native.Nat.{_+_, _*_, _≤_};
 ghost use lib.ListN.{length};
-ghost use Rattle.planning.specs.Refusals.{countOf, holds1, axisHolds, sidesHold, chromaHolds, planesHold, holds2, vectorFits, vectorsFit, holds3, entryHolds, orderHolds, hasRoom, refusalOf};
+ghost use Rattle.planning.specs.Refusals.{blockCount, holds1, axisHolds, sidesHold, chromaHolds, planesHold, holds2, vectorFits, vectorsFit, holds3, entryHolds, orderHolds, hasRoom, refusalOf};
 ghost use Rattle.planning.specs.Planned.{madeOf, planAnswer, planRecords, planIndices};
 ghost use Rattle.planning.specs.Accepted.{Framed};
 
@@ -22,20 +22,13 @@ pub enum Planned {
     Refused(u32),
 }
 
-// The blocks of a grid. One with a side below 2 is refused with 1, whatever its count.
 fn count_of(grid: Sides) -> usize
-    ensures { λ r. ⌜ r ≡ countOf grid ⌝ }
-    ensures { λ r. ⌜ r ≤ 4611686014132420609 ⌝ }
+    ensures { λ r. ⌜ r ≡ blockCount grid ⌝ }
+    ensures { λ r. ⌜ r ≤ 4611686018427387904 ⌝ }
 {
     let x = grid.x;
     let y = grid.y;
-    if x < 2 {
-        return 0;
-    }
-    if y < 2 {
-        return 0;
-    }
-    x as usize * y as usize
+    limits::blocks_of(x, y)
 }
 
 fn holds_1(s: Settings, listed: usize) -> bool
@@ -141,7 +134,7 @@ fn vector_fits(vectors: &[i32], i: usize) -> bool
 {
     let x = vectors[3 * i];
     let y = vectors[3 * i + 1];
-    limits::is_component(x) & limits::is_component(y)
+    whole::fits_i16(x) & whole::fits_i16(y)
 }
 
 fn vectors_fit(vectors: &[i32], n: usize) -> bool
@@ -251,7 +244,8 @@ fn made_of(s: Settings) -> Made
     let luma = planes.luma;
     let width = luma.width;
     let height = luma.height;
-    let slots = window::slots_of(block::radius_of(search));
+    let search_param = search.search_param;
+    let slots = window::slots_of(limits::radius_of(search_param));
     let Answer::Is(diagonal) = score::diagonal(width, height, pel) else {
         return Made {
             slots: slots,

@@ -7,7 +7,7 @@ use Prim.Native.Nat.{ℕ}
 use lib.IntN.{ℤ, pos, negsuc, _+ℤ_, _*ℤ_}
 use lib.Signed.{ltZ}
 use mir.Syntax.{w32}
-use Rattle.whole.specs.Numbers.{liesIn, modZ, wrapped}
+use Rattle.whole.specs.Numbers.{liesIn, modZ, wrapped, fitsI16}
 use Rattle.records.specs.declared.Offset.{Offset}
 use Rattle.records.specs.declared.Offset.the-variants.{At, Absent}
 use Rattle.records.specs.declared.Pair.{Pair}
@@ -31,11 +31,8 @@ offsetFits (At place) = ltZ absentWord place
 offsetFits Absent = true
 
 -- ---- a pair: the first part's 16 bits low, the second's high
-abbrev pub partFits : ℤ → Bool
-partFits part = liesIn (negsuc 32767) (pos 32767) part
-
 abbrev pub pairFits : Pair → Bool
-pairFits pair = partFits (pair .first) && partFits (pair .second)
+pairFits pair = fitsI16 (pair .first) && fitsI16 (pair .second)
 
 abbrev pub pairWord : Pair → ℤ
 pairWord pair = wrapped w32 (pair .second *ℤ pos 65536 +ℤ pos (modZ (pair .first) 65536))

@@ -10,7 +10,7 @@ use lib.IntN.{ℤ, pos, negsuc, _+ℤ_, _*ℤ_}
 use lib.Signed.{ltZ, leZ, shrZ}
 use mir.Syntax.{w16, w32}
 use mir.Val.{SFits, toZ}
-use Rattle.whole.specs.Numbers.{liesIn, modZ, wrapped}
+use Rattle.whole.specs.Numbers.{liesIn, modZ, wrapped, fitsI16}
 use Rattle.whole.specs.Signed.{signed, range, add-is, times-is, holds}
 use Rattle.whole.specs.Truth.{left-of, right-of, both-of, lies-low, lies-high, five-of}
 use Rattle.whole.specs.Floor.{floor-is, floor-low, floor-high, mod-below, floor-only, mod-only, mod-more}
@@ -21,7 +21,7 @@ use Rattle.records.specs.declared.Pair.{Pair}
 use Rattle.records.specs.declared.Record.{Record}
 use Rattle.records.specs.declared.Words.{Words}
 use Rattle.records.specs.declared.Packed.the-variants as answers
-use Rattle.records.specs.Packing.{absentWord, offsetWord, offsetFits, partFits, pairFits, pairWord, lambdaFits, lastFits, lastWord, offsetsFit, pairsFit, recordFits, recordWords, packedRecord}
+use Rattle.records.specs.Packing.{absentWord, offsetWord, offsetFits, pairFits, pairWord, lambdaFits, lastFits, lastWord, offsetsFit, pairsFit, recordFits, recordWords, packedRecord}
 use Rattle.records.specs.Alike.{alike-pairs, alike-words, alike-records}
 use Rattle.records.specs.Unpacking.{offsetOf, pairOf, recordOf}
 
@@ -47,13 +47,13 @@ true-and : {a b : Bool} → a ≡ true → (a && b) ≡ b
 true-and e = cc
 
 -- ---- pairs
-part-is : (z : ℤ) → partFits z ≡ true → SFits w16 z
+part-is : (z : ℤ) → fitsI16 z ≡ true → SFits w16 z
 part-is z e =
     let l = lies-low (negsuc 32767) (pos 32767) z e in
     let h = lies-high (negsuc 32767) (pos 32767) z e in
     omega signed
 
-is-part : {z : ℤ} → SFits w16 z → partFits z ≡ true
+is-part : {z : ℤ} → SFits w16 z → fitsI16 z ≡ true
 is-part {z} f =
     let l : leZ (negsuc 32767) z ≡ true = omega (signed, range f) in
     let h : leZ z (pos 32767) ≡ true = omega (signed, range f) in
@@ -61,13 +61,13 @@ is-part {z} f =
 
 pair-fits-word : (pair : Pair) → pairFits pair ≡ true → pairWord pair ≡ pair .second *ℤ pos 65536 +ℤ pos (modZ (pair .first) 65536)
 pair-fits-word pair e =
-    let f = part-is (pair .second) (right-of (partFits (pair .first)) (partFits (pair .second)) e) in
+    let f = part-is (pair .second) (right-of (fitsI16 (pair .first)) (fitsI16 (pair .second)) e) in
     let b = mod-below {m = 65536} (lit< tt) (pair .first) in
     wrapped-same w32 (omega (signed, range f, times-is (pair .second) 65536))
 
 pub pair-back : (pair : Pair) → pairFits pair ≡ true → pairOf (pairWord pair) ≡ pair
 pair-back pair e =
-    let first = part-is (pair .first) (left-of (partFits (pair .first)) (partFits (pair .second)) e) in
+    let first = part-is (pair .first) (left-of (fitsI16 (pair .first)) (fitsI16 (pair .second)) e) in
     let low = mod-below {m = 65536} (lit< tt) (pair .first) in
     ap pairOf (pair-fits-word pair e)
     ∙ alike-pairs

@@ -79,7 +79,7 @@ pub fn pair_fits(pair: Pair) -> bool
 {
     let first = pair.first;
     let second = pair.second;
-    whole::within(first, -32768, 32767) & whole::within(second, -32768, 32767)
+    whole::fits_i16(first) & whole::fits_i16(second)
 }
 
 // The first part in the low 16 bits, the second in the high 16. Of a part that doesn't fit, its

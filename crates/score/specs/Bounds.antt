@@ -1,31 +1,24 @@
 -- What the limits leave of the numbers on the way to a diagonal and a score. Laws that the proofs cite. Assumes nothing.
 use mathlib.Core.Path.{_≡_}
 use mathlib.Core.Bool.{true}
-use mathlib.Core.Logic.{⊎-elim}
 use Prim.Native.Nat.{ℕ, _+_, _*_, _/_, _^_, _≤_, _<_}
 use native.Mathlib.Nat.{lt-of-not-le, mul-le-mul, div-le-self, le-trans}
 use native.Mathlib.Omega.{arith}
 use lib.IntN.{ℤ, pos, negsuc, natAbs}
-use Rattle.whole.specs.Numbers.{liesIn, rootOf}
+use Rattle.whole.specs.Numbers.{liesIn, rootOf, fitsI16}
 use Rattle.whole.specs.Signed.{P, N, signed, abs-is}
-use Rattle.whole.specs.Truth.{either-of, lies-low, lies-high}
-use Rattle.whole.specs.Interval.{Within}
+use Rattle.whole.specs.Truth.{lies-low, lies-high}
+use Rattle.whole.specs.Interval.{Within, i16-within}
 use Rattle.whole.specs.Root.{root-is}
-use Rattle.limits.specs.Limits.{isFrameSide, isPel, isComponent}
+use Rattle.limits.specs.Limits.{isFrameSide}
 use Rattle.score.specs.Diagonal.{squared}
 
 -- ---- components
-pub component-within : (z : ℤ) → isComponent z ≡ true → Within 32768 32767 z
-component-within z e =
-    let l = lies-low (negsuc 32767) (pos 32767) z e in
-    let h = lies-high (negsuc 32767) (pos 32767) z e in
-    omega signed
-
-pub component-small : (z : ℤ) → isComponent z ≡ true → natAbs z ≤ 32768
-component-small z e = let w = component-within z e in omega (arith, abs-is z)
+pub component-small : (z : ℤ) → fitsI16 z ≡ true → natAbs z ≤ 32768
+component-small z e = let w = i16-within z e in omega (arith, abs-is z)
 
 -- a share is largest for the longest vector and a diagonal of 1
-pub share-small : (x y : ℤ) (diagonal : ℕ) → isComponent x ≡ true → isComponent y ≡ true → 100 * (natAbs x + natAbs y) / diagonal ≤ 6553600
+pub share-small : (x y : ℤ) (diagonal : ℕ) → fitsI16 x ≡ true → fitsI16 y ≡ true → 100 * (natAbs x + natAbs y) / diagonal ≤ 6553600
 share-small x y diagonal p q =
     le-trans (div-le-self (100 * (natAbs x + natAbs y)) diagonal) (omega (arith, component-small x p, component-small y q))
 
@@ -47,11 +40,3 @@ root-small n h =
     let square = root-is n (omega arith) .square in
     let below : rootOf n < 23171 = lt-of-not-le λ l. let s = mul-le-mul l l in absurd (omega arith) in
     omega arith
-
--- ---- pel
-pub pel-within : (z : ℤ) → isPel z ≡ true → Within 0 4 z
-pel-within z e =
-    ⊎-elim
-    (λ h. let l = lies-low (pos 1) (pos 2) z h in let k = lies-high (pos 1) (pos 2) z h in omega signed)
-    (λ h. let l = lies-low (pos 4) (pos 4) z h in let k = lies-high (pos 4) (pos 4) z h in omega signed)
-    (either-of (liesIn (pos 1) (pos 2) z) (liesIn (pos 4) (pos 4) z) e)

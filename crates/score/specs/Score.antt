@@ -5,8 +5,7 @@ use lib.Dec.{ltb}
 use lib.IntN.{ℤ, pos, _+ℤ_, _*ℤ_, natAbs}
 use lib.Signed.{ltZ, quotZ}
 use mir.Syntax.{w32}
-use Rattle.whole.specs.Numbers.{modZ, wrapped}
-use Rattle.limits.specs.Limits.{isComponent}
+use Rattle.whole.specs.Numbers.{modZ, wrapped, fitsI16}
 use Rattle.score.specs.declared.Answer.{Answer}
 use Rattle.score.specs.declared.Answer.the-variants.{Is, Refused}
 
@@ -34,7 +33,7 @@ packedScore x y sad diagonal average = scoreWord (scored sad (shareOf x y diagon
 
 -- "Packed score answers 2 for a component beyond i16 or a diagonal of 0 or less."
 abbrev pub scoreFits : ℤ → ℤ → ℤ → Bool
-scoreFits x y diagonal = isComponent x && isComponent y && ltZ (pos 0) diagonal
+scoreFits x y diagonal = fitsI16 x && fitsI16 y && ltZ (pos 0) diagonal
 
 unfoldable pub scoreAnswer : ℤ → ℤ → ℤ → ℤ → ℤ → Answer
 unfolding packedScore

@@ -4,7 +4,7 @@ ghost use mathlib.Core.Path.{_≡_};
 ghost use mathlib.Core.Bool.{true};
 ghost use Prim.Native.Nat.{_+_, _*_, _/_, _≤_, _<_};
 ghost use lib.IntN.{natAbs};
-ghost use Rattle.limits.specs.Limits.{isComponent};
+ghost use Rattle.whole.specs.Numbers.{fitsI16};
 ghost use Rattle.score.specs.Diagonal.{frameFits, diagonalAnswer};
 ghost use Rattle.score.specs.Score.{outputWord, scored, scoreFits, scoreAnswer};
 
@@ -38,25 +38,14 @@ pub fn output_word(x: i32, y: i32) -> i32
     whole::wrapping_add(x << 16, y)
 }
 
-// How far a component lies from zero.
-fn size(component: i32) -> u32
-    requires { ⌜ isComponent component ≡ true ⌝ }
-    ensures { λ r. ⌜ r ≡ natAbs component ⌝ }
-{
-    if component < 0 {
-        return (0 - component) as u32;
-    }
-    component as u32
-}
-
 // The vector's length in hundredths of the diagonal.
 fn share(x: i32, y: i32, diagonal: u32) -> u32
-    requires { ⌜ isComponent x ≡ true ⌝ }
-    requires { ⌜ isComponent y ≡ true ⌝ }
+    requires { ⌜ fitsI16 x ≡ true ⌝ }
+    requires { ⌜ fitsI16 y ≡ true ⌝ }
     requires { ⌜ 0 < diagonal ⌝ }
     ensures { λ r. ⌜ r ≡ 100 * (natAbs x + natAbs y) / diagonal ⌝ }
 {
-    100 * (size(x) + size(y)) / diagonal
+    100 * (whole::size(x) + whole::size(y)) / diagonal
 }
 
 fn scaled(sad: i32, share: u32) -> i32
@@ -77,7 +66,7 @@ fn scaled(sad: i32, share: u32) -> i32
 fn score_fits(x: i32, y: i32, diagonal: i32) -> bool
     ensures { λ r. ⌜ r ≡ scoreFits x y diagonal ⌝ }
 {
-    limits::is_component(x) & limits::is_component(y) & (0 < diagonal)
+    whole::fits_i16(x) & whole::fits_i16(y) & (0 < diagonal)
 }
 
 pub fn packed_score(x: i32, y: i32, sad: i32, diagonal: i32, average: i32) -> Answer

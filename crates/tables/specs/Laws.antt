@@ -8,7 +8,6 @@ use Prim.Native.Nat.{ℕ, zero, suc, _+_, _*_, _≤_, _<_}
 use native.Mathlib.Nat.{mul-le-mul, mul-le-mul-right}
 use native.Mathlib.Numerals.{add-one}
 use native.Mathlib.Omega.{arith}
-use lib.Dec.{eqb}
 use lib.IntN.{ℤ, pos, negsuc, natAbs}
 use lib.ListN.{getD, set, replicate, length, length-set, length-replicate}
 use lib.Seq.{getD-set-same, getD-set-other}
@@ -23,7 +22,6 @@ use Rattle.plane.specs.Reads.{sample-byte}
 use Rattle.choosing.specs.declared.Choice.{Choice}
 use Rattle.choosing.specs.Choosing.{countOf, columnsOf, rowsOf, slotOf}
 use Rattle.choosing.specs.Bounds.{Served, Small}
-use Rattle.choosing.specs.Answers.{rows-counted}
 use Rattle.tables.specs.declared.Reference.{Reference}
 use Rattle.tables.specs.Tables.{referenceBlock, vectorCost, candidateCost, withRow, withRows, withPredictor, tableOf, joinedUpto, joined}
 use Rattle.tables.specs.Bounds.{Most}
@@ -79,7 +77,6 @@ pub record Inside (k : Choice) (j i : ℕ) : Type 0 where
 
 pub inside : {k : Choice} {j i : ℕ} → Served k → j < rowsOf k → i < columnsOf k → Inside k j i
 inside {k} {j} {i} p l m =
-    let r : j < countOf (k .«least_y») (k .«greatest_y») = rows-counted (eqb (columnsOf k) 0) _ j l in
     let narrow = p .narrow (omega arith) (omega arith) in
     let low = p .low (omega arith) (omega arith) in
     let t = mul-le-mul {n₁ = j} {m₁ = columnsOf k} {n₂ = 6} {m₂ = 7} (omega arith) narrow in

@@ -79,7 +79,7 @@ pub fn table(
     ensures { λ r. ⌜ r ≡ tableOf choice (vectorCost measure w h (blockOf (now (block .entry)) w) (now (samples .entry)) reference) ⌝ }
 {
     let columns = choosing::columns_of(choice);
-    let rows = choosing::rows_of(choice, columns);
+    let rows = choosing::rows_of(choice);
     let x = choice.x;
     let y = choice.y;
     let mut out = [0u32; 50];

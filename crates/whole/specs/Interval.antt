@@ -7,10 +7,12 @@ use native.Mathlib.Nat.{mul-le-mul, mul-le-mul-right, div-le-self}
 use native.Mathlib.Omega.{arith}
 use lib.Dec.{T, ltb, leb, ltb→lt, leb→le}
 use lib.IntN.{ℤ, pos, negsuc, _+ℤ_, _-ℤ_, _*ℤ_, negℤ, natAbs}
-use lib.Signed.{mag, _≤ℤ_, quotZ, shrZ, nonNeg}
+use lib.Signed.{mag, leZ, _≤ℤ_, quotZ, shrZ, nonNeg}
 use mir.Syntax.{Width, w16, w32, w64}
 use mir.Val.{SFits, Fits, toZ, ofZ, bits, hbits}
 use mir.Facts.{toZ-ofZ}
+use Rattle.whole.specs.Numbers.{fitsI16}
+use Rattle.whole.specs.Truth.{lies-low, lies-high}
 use Rattle.whole.specs.Signed.{P, N, signed, range, fit, add-is, diff-is, times-is, nonneg-of, abs-is, got}
 use Rattle.whole.specs.Floor.{quot-P, quot-N}
 
@@ -33,6 +35,18 @@ within-32 f = omega (arith, range f)
 
 pub within-16 : {z : ℤ} → SFits w16 z → Within 32768 32767 z
 within-16 f = omega (arith, range f)
+
+-- what fits i16, and only that, lies in its interval
+pub i16-within : (z : ℤ) → fitsI16 z ≡ true → Within 32768 32767 z
+i16-within z e = let low = lies-low (negsuc 32767) (pos 32767) z e in let high = lies-high (negsuc 32767) (pos 32767) z e in omega signed
+
+pub within-i16 : {z : ℤ} → Within 32768 32767 z → fitsI16 z ≡ true
+within-i16 {z} w =
+    let low = w .low in
+    let high = w .high in
+    let a : leZ (negsuc 32767) z ≡ true = omega signed in
+    let b : leZ z (pos 32767) ≡ true = omega signed in
+    rw (a, b)
 
 pub within-more : {l h l′ h′ : ℕ} {z : ℤ} → Within l h z → T (leb l l′) → T (leb h h′) → Within l′ h′ z
 within-more {l} {h} {l′} {h′} p t u = omega (arith, leb→le l l′ t, leb→le h h′ u)

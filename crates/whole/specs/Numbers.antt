@@ -30,6 +30,10 @@ wrapped w z = toZ w (modZ z (2 ^ bits w))
 abbrev pub liesIn : ℤ → ℤ → ℤ → Bool
 liesIn least greatest z = leZ least z && leZ z greatest
 
+-- 01, "Numbers accepted": "Vector components fit i16"; "Planning": "Pairs fit i16"
+abbrev pub fitsI16 : ℤ → Bool
+fitsI16 z = liesIn (negsuc 32767) (pos 32767) z
+
 -- ---- the lesser of two, and the greater
 abbrev pub lesserOf : ℤ → ℤ → ℤ
 lesserOf a b = cond (ltZ a b) a b

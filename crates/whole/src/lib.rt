@@ -1,9 +1,9 @@
 // Whole numbers: wrapping at 32 bits, the lesser and the greater of two, the whole root.
 
 ghost use mathlib.Core.Path.{_≡_};
-ghost use lib.IntN.{_+ℤ_, _*ℤ_};
+ghost use lib.IntN.{_+ℤ_, _*ℤ_, natAbs};
 ghost use mir.Syntax.{w32};
-ghost use Rattle.whole.specs.Numbers.{wrapped, liesIn, lesserOf, greaterOf, rootOf};
+ghost use Rattle.whole.specs.Numbers.{wrapped, liesIn, fitsI16, lesserOf, greaterOf, rootOf};
 
 // The i32 that is w but for a multiple of 2^32. A shift up drops the high half, and the shift
 // down copies the sign of what is left.
@@ -30,6 +30,22 @@ pub fn within(value: i32, least: i32, greatest: i32) -> bool
     ensures { λ r. ⌜ r ≡ liesIn least greatest value ⌝ }
 {
     (least <= value) & (value <= greatest)
+}
+
+pub fn fits_i16(value: i32) -> bool
+    ensures { λ r. ⌜ r ≡ fitsI16 value ⌝ }
+{
+    within(value, -32768, 32767)
+}
+
+// How far a number lies from zero. In 64 bits i32::MIN can be turned too.
+pub fn size(z: i32) -> u32
+    ensures { λ r. ⌜ r ≡ natAbs z ⌝ }
+{
+    if z < 0 {
+        return (0 - z as i64) as u32;
+    }
+    z as u32
 }
 
 pub fn lesser(a: i32, b: i32) -> i32

@@ -8,15 +8,15 @@ use lib.Dec.{eqb}
 use lib.IntN.{ℤ, pos, _-ℤ_}
 use lib.ListN.{length}
 use lib.Signed.{ltZ}
+use Rattle.limits.specs.Limits.{radiusOf}
 use Rattle.whole.specs.Signed.{holds}
 use Rattle.record_slice.specs.RecordSlice.{anyWide}
 use Rattle.block.specs.declared.Settings.{Settings}
-use Rattle.block.specs.Shapes.{radiusOf}
 use Rattle.passes.specs.Fold.{allFit, wordsUpto}
 use Rattle.passes.specs.FoldLaws.{words-long}
 use Rattle.planning.specs.Refusals.{holds3}
 use Rattle.evaluation.specs.declared.Request.{Request}
-use Rattle.evaluation.specs.Refusals.{holds1, holds2, hasRoom, searchOf, refusalOf}
+use Rattle.evaluation.specs.Refusals.{holds1, holds2, hasRoom, refusalOf}
 use Rattle.evaluation.specs.Evaluated.{evaluateAnswer}
 use Rattle.evaluation.specs.Table.{given-exactly}
 use Rattle.plan_laws.specs.NeverWide.{never-wide}
@@ -28,15 +28,15 @@ module _ (s : Settings) (q : Request) (order vectors : List ℤ) (n : ℕ) (same
   pub record-count : length records / 12 ≡ n
   record-count = let long = words-long s order vectors n in omega arith
 
-  radius-same : radiusOf (s .search) ≡ radiusOf (searchOf q)
-  radius-same = ap (λ (z : ℤ). cond (ltZ z (pos 0)) (pos 0 -ℤ z) z) (sym same)
+  radius-same : radiusOf (s .search .«search_param») ≡ radiusOf (q .«search_param»)
+  radius-same = ap radiusOf (sym same)
 
-  pub none-wide : anyWide (radiusOf (searchOf q)) records (length records / 12) ≡ false
+  pub none-wide : anyWide (radiusOf (q .«search_param»)) records (length records / 12) ≡ false
   none-wide =
       let whole : records ++ [] ≡ records = append-nil records in
-      ap (anyWide (radiusOf (searchOf q)) records) record-count
+      ap (anyWide (radiusOf (q .«search_param»)) records) record-count
       ∙ ap (λ (r : ℤ). anyWide r records n) (sym radius-same)
-      ∙ subst (λ (l : List ℤ). anyWide (radiusOf (s .search)) l n ≡ false) whole (never-wide s order vectors n [] fit)
+      ∙ subst (λ (l : List ℤ). anyWide (radiusOf (s .search .«search_param»)) l n ≡ false) whole (never-wide s order vectors n [] fit)
 
   never : (t : Bool) {u : Bool} → u ≡ false → (t && u) ≡ false
   never true e = e

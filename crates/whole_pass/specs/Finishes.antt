@@ -12,21 +12,21 @@ use lib.Dec.{eqb, ltb, leb, lit<}
 use lib.IntN.{ℤ, pos, negsuc, natAbs, _*ℤ_}
 use lib.ListN.{length, getD}
 use lib.Signed.{ltZ, leZ, _≤ℤ_, _<ℤ_}
-use Rattle.whole.specs.Numbers.{rootOf, liesIn}
+use Rattle.limits.specs.Ranges.{at-each-pel}
+use Rattle.whole.specs.Numbers.{rootOf, liesIn, fitsI16}
 use Rattle.whole.specs.Root.{root-is}
 use Rattle.whole.specs.Signed.{P, N, signed, abs-is, lt-or-ge}
 use Rattle.whole.specs.Truth.{left-of, right-of, both-of}
-use Rattle.whole.specs.Interval.{Within}
-use Rattle.limits.specs.Limits.{isPel, isComponent}
+use Rattle.whole.specs.Interval.{within-i16}
+use Rattle.limits.specs.Limits.{isPel, blocksOf}
 use Rattle.limits.specs.Refusals.{first, anyUpto}
-use Rattle.limits.specs.Refused.{kept-done}
+use Rattle.limits.specs.Refused.{none-passes, kept-done}
 use Rattle.records.specs.declared.Record.{Record}
 use Rattle.records.specs.Packing.{offsetsFit, pairsFit, lastFits, recordFits}
 use Rattle.window.specs.Windows.{isBad, isNegative}
 use Rattle.score.specs.Diagonal.{squared, diagonalOf}
 use Rattle.choosing.specs.Choosing.{selected}
 use Rattle.choosing.specs.Answers.{selected-ranged}
-use Rattle.plane.specs.Offsets.{at-each-pel}
 use Rattle.record_slice.specs.RecordSlice.{recordAt}
 use Rattle.block.specs.declared.Settings.{Settings}
 use Rattle.best.specs.declared.Task.{Task}
@@ -34,34 +34,26 @@ use Rattle.best.specs.declared.Best.{Best}
 use Rattle.best.specs.Best.{choiceOf, bestOf}
 use Rattle.passes.specs.Fold.{indexAt, turnAt, turnOf, allFit, wordsUpto, indicesUpto}
 use Rattle.passes.specs.FoldLaws.{indices-long}
-use Rattle.planning.specs.Refusals.{countOf}
+use Rattle.planning.specs.Refusals.{blockCount}
 use Rattle.planning.specs.Planned.{madeOf}
-use Rattle.planning.specs.Accepted.{Set, count-is, Accepted}
+use Rattle.planning.specs.Accepted.{Set, Accepted}
 use Rattle.evaluation.specs.declared.Request.{Request}
 use Rattle.evaluation.specs.Evaluated.{taskOf, bestAt, bestsUpto}
 use Rattle.evaluation.specs.BestsLaws.{bests-long}
 use Rattle.evaluation.specs.Accepted.{ranged}
-use Rattle.finishing.specs.Finish.{blocksOf, refused1, sidesOver, refused2, isStray, refused4, refused5, isWild, refused7, finishAnswer, finishVectors, finishOutput, writtenUpto}
+use Rattle.finishing.specs.Finish.{refused1, sidesOver, refused2, isStray, refused4, refused5, isWild, refused7, finishAnswer, finishVectors, finishOutput, writtenUpto}
 use Rattle.finishing.specs.Finish as finish
 use Rattle.plan_laws.specs.ReadBack.{planned, record-read}
 use Rattle.whole_pass.specs.Pass.{passBest, storing, putting, passVectors, passOutput}
 use Rattle.whole_pass.specs.Lists.{Reads, best-reads, index-reads, written-alike}
 
 -- ---- a best's vector fits i16
-fits-component : {z : ℤ} → Within 32768 32767 z → isComponent z ≡ true
-fits-component {z} w =
-    let low = w .low in
-    let high = w .high in
-    let a : leZ (negsuc 32767) z ≡ true = omega signed in
-    let b : leZ z (pos 32767) ≡ true = omega signed in
-    rw (a, b)
-
 best-tame : (task : Task) (r : Record) (luma u v referenceLuma referenceU referenceV : List ℕ) → pairsFit r ≡ true →
-    (isComponent (bestOf task r luma u v referenceLuma referenceU referenceV .x) ≡ true) × (isComponent (bestOf task r luma u v referenceLuma referenceU referenceV .y) ≡ true)
+    (fitsI16 (bestOf task r luma u v referenceLuma referenceU referenceV .x) ≡ true) × (fitsI16 (bestOf task r luma u v referenceLuma referenceU referenceV .y) ≡ true)
 unfolding bestOf
 best-tame task r luma u v referenceLuma referenceU referenceV pairs =
     let vector = selected-ranged (choiceOf task r) (isBad r) (isNegative r) (r .sad) _ _ (ranged task r pairs) in
-    (fits-component (vector .x), fits-component (vector .y))
+    (within-i16 (vector .x), within-i16 (vector .y))
 
 -- ---- the diagonal of accepted sides is above 0
 root-some : (n : ℕ) → 1 ≤ n → n < 4294967296 → 1 ≤ rootOf n
@@ -83,15 +75,10 @@ diagonal-some s k =
     let sq = squares (k .across .frame-least) (k .across .frame-most) (k .down .frame-least) (k .down .frame-most) in
     times-some (s .level .pel) (rootOf (squared (s .planes .luma .width) + squared (s .planes .luma .height))) (k .pel) (root-some _ (sq .0) (sq .1))
 
-none-of : (test : ℕ → Bool) (n : ℕ) → ((i : ℕ) → i < n → test i ≡ false) → anyUpto test n ≡ false
-unfolding anyUpto
-none-of test zero h = refl
-none-of test (suc n) h = rw (none-of test n (λ i l. h i (omega arith)), h n (omega arith))
-
 module _ (s : Settings) (q : Request) (order vectors : List ℤ) (luma u v referenceLuma referenceU referenceV : List ℕ) {words marks : ℕ} (k : Accepted s order vectors words marks) where
   -- what the plan wrote, and what evaluating made of it
   abbrev pub n : ℕ
-  n = countOf (s .grid)
+  n = blockCount (s .grid)
 
   abbrev pub records : List ℤ
   records = wordsUpto s order vectors n
@@ -133,9 +120,6 @@ module _ (s : Settings) (q : Request) (order vectors : List ℤ) (luma u v refer
   index-is i l = subst (λ (x : List ℤ). getD x i (pos 0) ≡ pos (indexAt (s .grid) order i)) (append-nil indices) (index-reads s order vectors n i [] l)
 
   -- ---- finishing refuses nothing of it
-  blocks-are : blocksOf (s .grid .x) (s .grid .y) ≡ n
-  blocks-are = sym (count-is (k .set))
-
   not-1 : refused1 (s .grid .x) (s .grid .y) ≡ false
   not-1 =
       let a = k .set .across .count-least in
@@ -150,7 +134,7 @@ module _ (s : Settings) (q : Request) (order vectors : List ℤ) (luma u v refer
       let b = k .set .down .count-most in
       let p : ltZ (pos 2048) (s .grid .x) ≡ false = omega signed in
       let r : ltZ (pos 2048) (s .grid .y) ≡ false = omega signed in
-      let held : eqb (length vectors) (3 * blocksOf (s .grid .x) (s .grid .y)) ≡ true = eq-eqb (length vectors) (3 * blocksOf (s .grid .x) (s .grid .y)) (k .held ∙ ap (λ (m : ℕ). 3 * m) (sym blocks-are)) in
+      let held : eqb (length vectors) (3 * blocksOf (s .grid .x) (s .grid .y)) ≡ true = eq-eqb (length vectors) (3 * blocksOf (s .grid .x) (s .grid .y)) (k .held) in
       rw (p, r, held, diagonal-some s (k .set))
 
   stray-none : (blocks index : ℕ) → index < blocks → isStray (pos blocks) (pos index) ≡ false
@@ -162,10 +146,10 @@ module _ (s : Settings) (q : Request) (order vectors : List ℤ) (luma u v refer
   not-4 : refused4 (s .grid .x) (s .grid .y) indices ≡ false
   not-4 =
       ap (λ (m : ℕ). anyUpto (λ j. isStray (pos (blocksOf (s .grid .x) (s .grid .y))) (getD indices j (pos 0))) m) (indices-long s order vectors n)
-      ∙ none-of (λ j. isStray (pos (blocksOf (s .grid .x) (s .grid .y))) (getD indices j (pos 0))) n
+      ∙ none-passes (λ j. isStray (pos (blocksOf (s .grid .x) (s .grid .y))) (getD indices j (pos 0))) n
       (λ i l.
       ap (isStray (pos (blocksOf (s .grid .x) (s .grid .y)))) (index-is i l)
-      ∙ stray-none (blocksOf (s .grid .x) (s .grid .y)) (indexAt (s .grid) order i) (let h = k .serves i l .held in let g = k .held in let e = blocks-are in omega arith))
+      ∙ stray-none (blocksOf (s .grid .x) (s .grid .y)) (indexAt (s .grid) order i) (let h = k .serves i l .held in let g = k .held in omega arith))
 
   not-5 : (asked : Bool) (room : ℕ) → (asked ≡ true → 2 * n ≤ room) → refused5 (s .grid .x) (s .grid .y) indices bests asked room ≡ false
   not-5 asked room h =
@@ -174,13 +158,13 @@ module _ (s : Settings) (q : Request) (order vectors : List ℤ) (luma u v refer
       rw bests-4 (by asked refl)
     where
       by : (a : Bool) → asked ≡ a → (a && ltb room (2 * blocksOf (s .grid .x) (s .grid .y)) || false) ≡ false
-      by true e = let enough = h e in let b = blocks-are in rw (le-ltb room (2 * blocksOf (s .grid .x) (s .grid .y)) (omega arith))
+      by true e = let enough = h e in rw (le-ltb room (2 * blocksOf (s .grid .x) (s .grid .y)) (omega arith))
       by false e = refl
 
   not-7 : refused7 indices bests ≡ false
   not-7 =
       ap (λ (m : ℕ). anyUpto (λ j. isWild (getD bests (4 * j) (pos 0)) (getD bests (4 * j + 1) (pos 0))) m) (indices-long s order vectors n)
-      ∙ none-of (λ j. isWild (getD bests (4 * j) (pos 0)) (getD bests (4 * j + 1) (pos 0))) n
+      ∙ none-passes (λ j. isWild (getD bests (4 * j) (pos 0)) (getD bests (4 * j + 1) (pos 0))) n
       (λ i l.
       let tame = best-tame (taskOf q) (planned s order vectors i) luma u v referenceLuma referenceU referenceV (pairs-each i l) in
       let r = reads i l in

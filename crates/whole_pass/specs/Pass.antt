@@ -8,7 +8,7 @@ use Rattle.block.specs.declared.Settings.{Settings}
 use Rattle.best.specs.declared.Best.{Best}
 use Rattle.best.specs.Best.{bestOf}
 use Rattle.passes.specs.Fold.{indexAt}
-use Rattle.planning.specs.Refusals.{countOf}
+use Rattle.planning.specs.Refusals.{blockCount}
 use Rattle.planning.specs.Planned.{madeOf}
 use Rattle.evaluation.specs.declared.Request.{Request}
 use Rattle.evaluation.specs.Evaluated.{taskOf}
@@ -25,7 +25,7 @@ module _ (s : Settings) (q : Request) (order vectors : List ℤ) (luma u v refer
 
   -- the vectors after the pass
   unfoldable pub passVectors : List ℤ
-  passVectors = writtenUpto storing vectors (countOf (s .grid))
+  passVectors = writtenUpto storing vectors (blockCount (s .grid))
 
   abbrev pub putting : ℕ → List ℤ → List ℤ
   putting i held =
@@ -34,4 +34,4 @@ module _ (s : Settings) (q : Request) (order vectors : List ℤ) (luma u v refer
 
   -- the output words after it
   unfoldable pub passOutput : List ℤ → List ℤ
-  passOutput output = writtenUpto putting output (countOf (s .grid))
+  passOutput output = writtenUpto putting output (blockCount (s .grid))

@@ -10,7 +10,7 @@ use lib.Seq.{drop-length}
 use Rattle.limits.specs.Refused.{kept-done}
 use Rattle.block.specs.declared.Settings.{Settings}
 use Rattle.passes.specs.Fold.{wordsUpto, indicesUpto}
-use Rattle.planning.specs.Refusals.{countOf, refusalOf}
+use Rattle.planning.specs.Refusals.{blockCount, refusalOf}
 use Rattle.planning.specs.Planned.{madeOf, planRecords, planIndices}
 use Rattle.planning.specs.Accepted.{Accepted, accepted}
 use Rattle.evaluation.specs.declared.Request.{Request}
@@ -25,11 +25,11 @@ no-tail : (n : ℕ) (buffer : List ℤ) → length buffer ≡ n → drop n buffe
 no-tail n buffer e = ap (λ (k : ℕ). drop k buffer) (sym e) ∙ drop-length buffer
 
 module _ (s : Settings) (q : Request) (order vectors : List ℤ) (luma u v referenceLuma referenceU referenceV : List ℕ)
-    (records indices bests : List ℤ) (records-long : length records ≡ 12 * countOf (s .grid)) (indices-long : length indices ≡ countOf (s .grid)) (bests-long : length bests ≡ 4 * countOf (s .grid))
+    (records indices bests : List ℤ) (records-long : length records ≡ 12 * blockCount (s .grid)) (indices-long : length indices ≡ blockCount (s .grid)) (bests-long : length bests ≡ 4 * blockCount (s .grid))
     (same : q .«search_param» ≡ s .search .«search_param»)
     (planned : refusalOf s order vectors (length luma) (length u) (length v) (length records) (length indices) ≡ 0) where
   abbrev n : ℕ
-  n = countOf (s .grid)
+  n = blockCount (s .grid)
 
   taken : Accepted s order vectors (length records) (length indices)
   taken = accepted s order vectors (length luma) (length u) (length v) (length records) (length indices) planned

@@ -6,12 +6,12 @@ use Rattle.whole.specs.Numbers.{modZ}
 use Rattle.records.specs.declared.Pair.{Pair}
 use Rattle.records.specs.declared.Record.{Record}
 
--- ---- the flags: "BAD 1, NEGATIVE 2"
+-- ---- the flags: "BAD 1, NEGATIVE 2", each its own bit, whatever stands above it
 abbrev pub badFlag : ℤ → ℤ
 badFlag flags = pos (modZ flags 2)
 
 abbrev pub halfFlag : ℤ → ℤ
-halfFlag flags = shrZ flags 2
+halfFlag flags = pos (modZ (shrZ flags 2) 2)
 
 abbrev pub isBad : Record → Bool
 isBad r = leZ (pos 1) (badFlag (r .flags))

@@ -16,7 +16,7 @@ pub fn bad_flag(flags: i32) -> i32
 pub fn half_flag(flags: i32) -> i32
     ensures { λ r. ⌜ r ≡ halfFlag flags ⌝ }
 {
-    flags >> 1
+    (flags >> 1) & 1
 }
 
 pub fn is_bad(given: Record) -> bool

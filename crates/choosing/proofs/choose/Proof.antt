@@ -16,9 +16,9 @@ use mir.Val.{SFits, toZ}
 use Rattle.whole.specs.Signed.{signed, got, add-is}
 use Rattle.whole.specs.Interval.{Within, fits}
 use Rattle.choosing.specs.declared.Choice.{Choice}
-use Rattle.choosing.specs.Choosing.{Walk, columnsOf, rowsOf, slotOf, lumaColumn, lumaOf, chromaOf, farOf, nearOf, fullOf, advanced, alongRow, restarted, alongRows, plainSad, start, answerOf, chosen}
+use Rattle.choosing.specs.Choosing.{Walk, columnsOf, rowsOf, slotOf, lumaColumn, lumaOf, chromaOf, afterDistance, afterLuma, afterChroma, advanced, alongRow, restarted, alongRows, plainSad, start, answerOf, chosen}
 use Rattle.choosing.specs.Fields.{read}
-use Rattle.choosing.proofs.Walking.{at-most-7, start-is, slot-in, luma-column-low, row-done, too-far, luma-over, chroma-over, better, walk, walks-alike}
+use Rattle.choosing.proofs.Walking.{count-most, at-most-7, start-is, slot-in, luma-column-low, row-done, too-far, luma-over, chroma-over, better, walk, walks-alike}
 use Rattle.choosing.proofs.choose.Statement.{statement}
 use Rattle.choosing.proofs.choose.Tie as tie
 
@@ -134,24 +134,24 @@ module _ (a : Row) where
   rows-are = a .before .before .before .before .before .before .rows-of .ensures
 
 record Room (a : Row) : Type 0 where
-  narrow : W a ≤ 7
-  low : J a < 7
+  narrow : W a ≤ 65536
+  low : J a < 65536
 
 room : (c : tie.In-rows Inv-columns μ-columns Inv-rows μ-rows) → Room (c .before)
 room c =
     let a = c .before in
     let w = columns-are a in
     let h = rows-are a in
-    let b = at-most-7 (begin a .pre .0) (omega arith) in
-    record { narrow = omega (arith, b .0); low = omega (arith, b .1) }
+    let r = begin a .pre .0 .ranged in
+    record { narrow = omega (arith, count-most (r .least-x) (r .greatest-x)); low = omega (arith, count-most (r .least-y) (r .greatest-y)) }
 
 y-at-requires : tie.Need-y-at-requires Inv-columns μ-columns Inv-rows μ-rows
 y-at-requires c κs = let b = room c .low in (begin (c .before) .pre .0 .ranged, omega arith)
 
-row-small : (c : tie.After-y-at Inv-columns μ-columns Inv-rows μ-rows) → J (c .before .before) * W (c .before .before) ≤ 42
+row-small : (c : tie.After-y-at Inv-columns μ-columns Inv-rows μ-rows) → J (c .before .before) * W (c .before .before) ≤ 4294901760
 row-small c =
     let b = room (c .before) in
-    let last : J (c .before .before) ≤ 6 = omega (arith, b .low) in
+    let last : J (c .before .before) ≤ 65535 = omega (arith, b .low) in
     mul-le-mul last (b .narrow)
 
 mul-row : tie.Need-mul-row Inv-columns μ-columns Inv-rows μ-rows
@@ -170,19 +170,27 @@ module _ (a : Head) where
   I = a .columns .i
 
   abbrev far : ℤ
-  far = farOf (K (row-of a)) (J (row-of a)) I
+  far = afterDistance (K (row-of a)) (J (row-of a)) I
 
   abbrev near : ℤ
-  near = nearOf (K (row-of a)) (L (row-of a)) (J (row-of a)) I (a .columns .column)
+  near = afterLuma (K (row-of a)) (L (row-of a)) (J (row-of a)) I (a .columns .column)
 
   abbrev full : ℤ
-  full = fullOf (K (row-of a)) (L (row-of a)) (C (row-of a)) (J (row-of a)) I (a .columns .column)
+  full = afterChroma (K (row-of a)) (L (row-of a)) (C (row-of a)) (J (row-of a)) I (a .columns .column)
 
   abbrev sad : ℤ
   sad = pos (lumaOf (K (row-of a)) (L (row-of a)) (J (row-of a)) I (a .columns .column) + chromaOf (K (row-of a)) (C (row-of a)) (J (row-of a)) I)
 
   in-room : Room (row-of a)
   in-room = room (a .before .before)
+
+  -- a row that has a candidate is one of at most 7
+  tight : I < W (row-of a) → (W (row-of a) ≤ 7) × (J (row-of a) < 7)
+  tight l =
+      let w = columns-are (row-of a) in
+      let h = rows-are (row-of a) in
+      let b = at-most-7 (begin (row-of a) .pre .0) (omega arith) (omega arith) in
+      (omega (arith, b .0), omega (arith, b .1))
 
   vy-is : read (a .before .y-at .result) ≡ K (row-of a) .«least_y» +ℤ pos (J (row-of a))
   vy-is = got w32 (a .before .y-at .ok) (a .before .y-at .ensures)
@@ -208,7 +216,7 @@ distance-cost-requires c κs =
 
 -- its distance
 far-is : (c : Far) → read (c .distance-cost .result) ≡ far (head-far c)
-unfolding farOf
+unfolding afterDistance
 far-is c =
     let x = vx-is (c .before) in
     let y = vy-is (head-far c) in
@@ -230,9 +238,9 @@ passed-far c = let e = far-is (c .before) in simp e at (c .if1 .left)
 luma-slot : (c : tie.After-luma-column Inv-columns μ-columns Inv-rows μ-rows) → let a = row-of (head-far (c .before .before)) in 1 + J a * W a + c .luma-column .result < 50
 luma-slot c =
     let a = head-far (c .before .before) in
-    let b = in-room a in
+    let b = tight a (omega arith) in
     let l = luma-column-low (K (row-of a)) (a .columns .column) (I a) (a .columns .inv .behind) in
-    slot-in (W (row-of a)) (J (row-of a)) (c .luma-column .result) (b .narrow) (b .low) (omega (arith, c .luma-column .ensures))
+    slot-in (W (row-of a)) (J (row-of a)) (c .luma-column .result) (b .0) (b .1) (omega (arith, c .luma-column .ensures))
 
 add-column : tie.Need-add-column Inv-columns μ-columns Inv-rows μ-rows
 add-column c = let b = in-room (head-far (c .before .before)) in omega (arith, b .narrow)
@@ -247,7 +255,7 @@ with-penalty-requires : tie.Need-with-penalty-requires Inv-columns μ-columns In
 with-penalty-requires c κs = begin (row-of (head-far (c .before .before .before))) .pre .1 .0 .below _
 
 near-is : (c : Near) → read (c .with-penalty .result) ≡ near (head-near c)
-unfolding nearOf lumaOf slotOf
+unfolding afterLuma lumaOf slotOf
 near-is c =
     let e = far-is (far-before c) in
     let at = c .before .before .luma-column .ensures in
@@ -272,8 +280,8 @@ passed-near c = let e = near-is (c .before) in simp e at (c .if2 .left)
 chroma-slot : (c : tie.Else2 Inv-columns μ-columns Inv-rows μ-rows) → let a = head-near (c .before) in 1 + J (row-of a) * W (row-of a) + I a < 50
 chroma-slot c =
     let a = head-near (c .before) in
-    let b = in-room a in
-    slot-in (W (row-of a)) (J (row-of a)) (I a) (b .narrow) (b .low) (omega arith)
+    let b = tight a (omega arith) in
+    slot-in (W (row-of a)) (J (row-of a)) (I a) (b .0) (b .1) (omega arith)
 
 add-c : tie.Need-add-c Inv-columns μ-columns Inv-rows μ-rows
 add-c c = omega (arith, chroma-slot c)
@@ -285,7 +293,7 @@ with-penalty-requires-2 : tie.Need-with-penalty-requires-2 Inv-columns μ-column
 with-penalty-requires-2 c κs = begin (row-of (head-near (c .before .before))) .pre .1 .1 .below _
 
 full-is : (c : Full) → read (c .with-penalty2 .result) ≡ full (head-full c)
-unfolding fullOf chromaOf slotOf
+unfolding afterChroma chromaOf slotOf
 full-is c =
     let e = near-is (near-before c) in
     let w = columns-are (row-of (head-full c)) in
@@ -367,7 +375,7 @@ choose-spec =
     Inv-rows
     μ-rows
     (λ c κs. c .pre .0 .ranged)
-    (λ c κs. (c .before .pre .0 .ranged, c .columns-of .ensures))
+    (λ c κs. c .before .pre .0 .ranged)
     (λ c. search needs)
     (λ c. search needs)
     plain-sad-requires

@@ -12,7 +12,7 @@ returns c =
     let s = c .before .before in
     let f = s .fits .x in
     let g = s .fits .y in
-    ap not (both-alike (simp toZ-ofZ at (c .before .is-component .ensures)) (simp toZ-ofZ at (c .is-component2 .ensures)))
+    ap not (both-alike (simp toZ-ofZ at (c .before .fits-i16 .ensures)) (simp toZ-ofZ at (c .fits-i162 .ensures)))
 
 pub is-wild-spec : {M : Type 1} → statement M
 is-wild-spec = tie.close (tie.spec (λ c κs. search needs) (λ c κs. search needs) returns)

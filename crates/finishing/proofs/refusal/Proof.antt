@@ -3,7 +3,7 @@ use borrow.Author.Needs.{needs}
 use borrow.Author.Tests.{eqb-true, not-false}
 use mathlib.Core.Path.{_≡_, sym, ap, _∙_}
 use mathlib.Core.Bool.{Bool, false, _&&_, _||_, not}
-use Prim.Native.Nat.{ℕ, _*_}
+use Prim.Native.Nat.{ℕ, _*_, _≤_}
 use native.Mathlib.Omega.{arith}
 use lib.Dec.{eqb, ltb}
 use lib.IntN.{ℤ, pos}
@@ -12,10 +12,11 @@ use lib.Signed.{leZ}
 use mir.Facts.{toZ-ofZ, toZ-pos}
 use mir.Syntax.{w32}
 use mir.Val.{toZ, ofZ}
+use Rattle.limits.specs.Limits.{blocksOf}
 use Rattle.limits.specs.Refusals.{first}
 use Rattle.limits.specs.Refused.{neither-second}
-use Rattle.finishing.specs.Finish.{refused1, sidesOver, blocksOf, refused2, anyStray, refused4, refused5, refused7, finishAnswer}
-use Rattle.finishing.specs.Served.{grid-of}
+use Rattle.finishing.specs.Finish.{refused1, sidesOver, refused2, anyStray, refused4, refused5, refused7, finishAnswer}
+use Rattle.finishing.specs.Served.{grid-of, blocks-most}
 use Rattle.finishing.proofs.refusal.Statement.{statement}
 use Rattle.finishing.proofs.refusal.Tie as tie
 
@@ -38,19 +39,17 @@ one c = sym (below (c .before)) ∙ c .if1 .left
 not-over : (c : tie.Else2) → sidesOver (c .before .before .before .before .args .nx) (c .before .before .before .before .args .ny) ≡ false
 not-over c = sym (over (c .before)) ∙ c .if2 .left
 
-blocks-of-requires : tie.Need-blocks-of-requires
-blocks-of-requires c κs =
-    let s = c .before .before .before .before in
-    let f = s .fits .nx in
-    let g = s .fits .ny in
-    simp toZ-ofZ (grid-of (s .args .nx) (s .args .ny) (one (c .before .before)) (not-over c))
-
 blocks : (c : tie.After-blocks-of) → c .blocks-of .result ≡ blocksOf (c .before .before .before .before .before .args .nx) (c .before .before .before .before .before .args .ny)
 blocks c =
     let s = c .before .before .before .before .before in
     let f = s .fits .nx in
     let g = s .fits .ny in
     simp toZ-ofZ at (c .blocks-of .ensures .0)
+
+blocks-small : (c : tie.After-blocks-of) → c .blocks-of .result ≤ 4194304
+blocks-small c =
+    let s = c .before .before .before .before .before .args in
+    rw (blocks c) (blocks-most (grid-of (s .nx) (s .ny) (one (c .before .before .before)) (not-over (c .before))))
 
 -- the second part of 2, of what the machine reads
 counts : (held : ℕ) {n m : ℕ} {D d : ℤ} {t : Bool} → n ≡ m → D ≡ d → (not (eqb held (3 * n)) || leZ D (pos 0)) ≡ t → (not (eqb held (3 * m)) || leZ d (pos 0)) ≡ t
@@ -67,7 +66,7 @@ four : (c : tie.After-any-stray) → let s = c .before .before .before .before .
 four c =
     let b = c .before .before in
     let indices = b .before .before .before .before .before .args .indices .now in
-    c .any-stray .ensures ∙ ap (λ (z : ℤ). anyStray z indices (length indices)) (toZ-pos w32 (omega (arith, b .blocks-of .ensures .1)) ∙ ap pos (blocks b))
+    c .any-stray .ensures ∙ ap (λ (z : ℤ). anyStray z indices (length indices)) (toZ-pos w32 (omega (arith, blocks-small b)) ∙ ap pos (blocks b))
 
 returns : tie.Need-returns
 unfolding finishAnswer
@@ -143,10 +142,10 @@ refusal-spec =
     returns
     (λ c κs. search needs)
     returns-2
-    blocks-of-requires
+    (λ c κs. search needs)
     (λ c. search needs)
     returns-3
-    (λ c. search needs)
+    (λ c. let small = blocks-small (c .before) in omega arith)
     (λ c κs. search needs)
     returns-4
     (λ c. search needs)

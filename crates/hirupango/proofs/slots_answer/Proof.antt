@@ -8,15 +8,15 @@ use lib.Signed.{leZ}
 use mir.Facts.{toZ-ofZ}
 use mir.Syntax.{w32}
 use mir.Val.{toZ, ofZ}
+use Rattle.limits.specs.Ranges.{radius-within}
+use Rattle.limits.specs.Limits.{radiusOf}
 use Rattle.whole.specs.Numbers.{liesIn}
 use Rattle.whole.specs.Signed.{signed, got}
 use Rattle.whole.specs.Truth.{lies-low, lies-high}
 use Rattle.whole.specs.Interval.{Within}
 use Rattle.score.specs.declared.Answer.the-variants.{Is}
 use Rattle.window.specs.Windows.{slotsOf}
-use Rattle.block.specs.Shapes.{radiusOf}
-use Rattle.block.specs.Bounds.{within-radius}
-use Rattle.hirupango.specs.Slots.{exhaustively, slotsAnswer}
+use Rattle.hirupango.specs.Slots.{slotsAnswer}
 use Rattle.hirupango.proofs.slots_answer.Statement.{statement}
 use Rattle.hirupango.proofs.slots_answer.Tie as tie
 
@@ -41,13 +41,13 @@ module _ (c : tie.Else1) where
 radius-of-requires : tie.Need-radius-of-requires
 radius-of-requires c κs = let f = c .before .before .fits .search-param in simp toZ-ofZ (lies c)
 
-radius-is : (c : tie.After-radius-of) → toZ w32 (ofZ w32 (c .radius-of .result)) ≡ radiusOf (exhaustively (c .before .before .before .args .search-param))
+radius-is : (c : tie.After-radius-of) → toZ w32 (ofZ w32 (c .radius-of .result)) ≡ radiusOf (c .before .before .before .args .search-param)
 radius-is c = let f = c .before .before .before .fits .search-param in got w32 (c .radius-of .ok) (simp toZ-ofZ at (c .radius-of .ensures))
 
 slots-of-requires : tie.Need-slots-of-requires
 slots-of-requires c κs =
-    let q = exhaustively (c .before .before .before .args .search-param) in
-    let w = within-radius q (lies (c .before)) in
+    let q = c .before .before .before .args .search-param in
+    let w = radius-within (lies (c .before)) in
     let low = w .low in
     let high = w .high in
     let least : leZ (pos 0) (radiusOf q) ≡ true = omega signed in

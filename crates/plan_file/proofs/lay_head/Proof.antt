@@ -6,13 +6,13 @@ use Prim.Native.Nat.{ℕ}
 use native.Mathlib.Omega.{arith}
 use lib.ListN.{length}
 use lib.Seq.{length-take-le}
-use Rattle.report_text.specs.Putting.{lentAnswer, lentLine}
 use Rattle.report_text.specs.PuttingLaws.{front-is}
+use Rattle.plan_file.specs.Report.{textNumber, answered, lineAfter}
 use Rattle.plan_file.proofs.lay_head.Statement.{statement}
 use Rattle.plan_file.proofs.lay_head.Tie as tie
 
-slice-aggregate-lay : tie.Need-slice-aggregate-lay
-slice-aggregate-lay c =
+slice-aggregate-lay-unless : tie.Need-slice-aggregate-lay-unless
+slice-aggregate-lay-unless c =
     let p = c .before .before .before in
     sym (length-take-le (p .head-text .result) (p .head-text .last .1 .0) (omega (arith, p .head-text .ensures .1, p .head-text .kept .1 .0)))
 
@@ -21,9 +21,10 @@ returns c =
     let laid = c .before .before in
     let p = laid .before .before .before .before in
     let front = front-is (p .head-text .ensures .0) in
+    let wide = p .before .before .before .args .wide in
     let line = p .before .before .before .args .line .now in (
-      laid .lay .ensures .0 ∙ ap (λ (t : List ℕ). lentAnswer t (length line)) front,
-      laid .lay .ensures .1 ∙ ap (λ (t : List ℕ). lentLine t line) front,
+      laid .lay-unless .ensures .0 ∙ ap (λ (t : List ℕ). answered (textNumber wide t (length line)) t) front,
+      laid .lay-unless .ensures .1 ∙ ap (λ (t : List ℕ). lineAfter (textNumber wide t (length line)) t line) front,
     )
 
 pub lay-head-spec : {M : Type 1} → statement M
@@ -33,7 +34,7 @@ lay-head-spec =
     (λ c. search needs)
     (λ c κs. search needs)
     (λ c. search needs)
-    slice-aggregate-lay
+    slice-aggregate-lay-unless
     (λ c κs. search needs)
     (λ c. search needs)
     returns)

@@ -1,87 +1,70 @@
--- By the answer about the file, and then by the number. Assumes nothing.
+-- 8, 4, and then the text. Assumes nothing.
 use borrow.Author.Needs.{needs}
+use borrow.Author.Tests.{not-true, not-false}
 use mathlib.Core.Path.{_≡_, sym, ap, _∙_}
+use mathlib.Core.Bool.{true}
 use Prim.Native.Nat.{_<_}
 use native.Mathlib.Omega.{arith}
 use lib.IntN.{ℤ, pos, natAbs}
-use lib.ListN.{length}
-use mir.Facts.{toZ-ofZ, toZ-pos}
+use mir.Facts.{toZ-pos}
 use mir.Syntax.{w32}
-use mir.Val.{SFits}
-use Rattle.records.specs.declared.Record.{Record}
-use Rattle.report_text.specs.Putting.{lentAnswer, lentLine}
-use Rattle.report_text.specs.declared.Written.the-variants as written
-use Rattle.plan_file.specs.declared.Plan.the-variants as plan
-use Rattle.plan_file.specs.PlanFile.{planOf, planNumber}
+use Rattle.plan_file.specs.PlanFile.{isPlanFile, trailerOf}
+use Rattle.plan_file.specs.Served.{served}
 use Rattle.plan_file.specs.Report.{lineText}
-use Rattle.plan_file.specs.Reported.{Records, accepted-records, line-refused, line-outside, line-accepted}
+use Rattle.plan_file.specs.Reported.{texts-alike, line-8, line-4, line-given}
 use Rattle.plan_file.proofs.report_line.Statement.{statement}
 use Rattle.plan_file.proofs.report_line.Tie as tie
 
+holds : (c : tie.Else1) → isPlanFile (c .before .before .before .before .args .file .now) ≡ true
+holds c = sym (c .before .is-plan-file .ensures) ∙ not-false _ (c .if1 .left)
+
+below : (c : tie.Else2) → c .before .before .before .before .before .before .args .number < natAbs (trailerOf (c .before .before .before .before .before .before .args .file .now) .count)
+below c = omega (arith, c .before .count-of .ensures .0, c .if2 .left)
+
 returns : tie.Need-returns
 returns c =
-    let told = c .before .enum-told .given in
-    let asked = c .before .before .before in
-    let s = asked .before .before .before .args in
-    let g = line-refused (s .file .now) (s .line .now) (s .number) _ (sym (asked .check-plan-file .ensures) ∙ told .1) in
-    (ap written.Refused (c .refusal-of .ensures ∙ ap planNumber (told .1)) ∙ sym (g .answer-is), sym (g .line-is))
-
--- what is known of an accepted file
-is-accepted : (c : tie.After-struct-told) →
-    planOf (c .before .before .before .before .before .before .before .args .file .now) ≡ plan.Accepted (c .before .before .plan .given .0 .0)
-is-accepted c = sym (c .before .before .before .before .check-plan-file .ensures) ∙ c .before .before .plan .given .1
-
-records : (c : tie.After-struct-told) →
-    Records (c .before .before .plan .given .0 .0 .count) (length (c .before .before .before .before .before .before .before .args .file .now))
-records c = accepted-records _ _ (is-accepted c)
-
-count-fits : (c : tie.After-struct-told) → SFits w32 (c .before .before .plan .given .0 .0 .count)
-count-fits c = record { sfits = c .struct-told .given .0 .1 }
-
-cast-if1 : tie.Need-cast-if1
-cast-if1 c = let k = records c in rw (toZ-ofZ (count-fits c)) (k .natural, omega (arith, k .long, k .most))
-
-below : (c : tie.Then1) → c .before .before .before .before .before .before .before .before .args .number < natAbs (c .before .before .before .plan .given .0 .0 .count)
-below c = let f = count-fits (c .before) in simp toZ-ofZ at (c .if1 .taken)
-
-number-fits : tie.Need-cast-lay-line
-number-fits c = let k = records (c .before) in record { sfits = omega (arith, below c, k .long, k .most) }
+    let s = c .before .before .before .before .args in
+    let g = line-8 (s .file .now) (s .line .now) (s .number) (sym (c .before .is-plan-file .ensures) ∙ not-true _ (c .if1 .taken)) in
+    (sym (g .answer-is), sym (g .line-is))
 
 returns-2 : tie.Need-returns-2
 returns-2 c =
-    let laid = c .before .before in
-    let read = laid .before .before in
-    let then = read .before in
-    let s = then .before .before .before .before .before .before .before .before .args in
-    let g = line-accepted (s .file .now) (s .line .now) (s .number) _ (is-accepted (then .before)) (below then) in
-    let e = toZ-pos w32 (number-fits then .sfits) in
-    let r = read .record-at .ensures in (
-      laid .lay-line .ensures .0 ∙ ap (λ (z : ℤ). lentAnswer (lineText z (read .record-at .result)) (length (s .line .now))) e
-          ∙ ap (λ (q : Record). lentAnswer (lineText (pos (s .number)) q) (length (s .line .now))) r ∙ sym (g .answer-is),
-      laid .lay-line .ensures .1 ∙ ap (λ (z : ℤ). lentLine (lineText z (read .record-at .result)) (s .line .now)) e
-          ∙ ap (λ (q : Record). lentLine (lineText (pos (s .number)) q) (s .line .now)) r ∙ sym (g .line-is),
-    )
+    let s = c .before .before .before .before .before .before .args in
+    let g = line-4 (s .file .now) (s .line .now) (s .number) (holds (c .before .before)) (omega (arith, c .before .count-of .ensures .0, c .if2 .taken)) in
+    (sym (g .answer-is), sym (g .line-is))
+
+number-fits : tie.Need-cast-lay-line
+number-fits c =
+    let counted = c .before .before in
+    let s = counted .before .before .before .before .before in
+    record { sfits = omega (arith, c .before .if2 .left, counted .count-of .ensures .1, served (s .args .file .now) (holds (counted .before)) .most) }
+
+record-at-requires : tie.Need-record-at-requires
+record-at-requires c κs = omega (arith, c .before .if2 .left, c .before .before .count-of .ensures .1)
 
 returns-3 : tie.Need-returns-3
 returns-3 c =
-    let f = count-fits (c .before) in
-    let s = c .before .before .before .before .before .before .before .before .args in
-    let g = line-outside (s .file .now) (s .line .now) (s .number) _ (is-accepted (c .before)) (simp toZ-ofZ at (c .if1 .left)) in
-    (sym (g .answer-is), sym (g .line-is))
+    let laid = c .before .before in
+    let read = laid .before .before in
+    let asked = read .before in
+    let s = asked .before .before .before .before .before .before .before .args in
+    let line = s .line .now in
+    let g = line-given (s .file .now) line (s .number) (holds (asked .before .before .before)) (below (asked .before)) in
+    let number = ap (λ (z : ℤ). lineText z (read .record-at .result)) (toZ-pos w32 (number-fits asked .sfits)) in
+    let t = texts-alike line (asked .is-too-wide .ensures) (number ∙ ap (lineText (pos (s .number))) (read .record-at .ensures)) in
+    (laid .lay-line .ensures .0 ∙ t .answer-is ∙ sym (g .answer-is), laid .lay-line .ensures .1 ∙ t .line-is ∙ sym (g .line-is))
 
 pub report-line-spec : {M : Type 1} → statement M
 report-line-spec =
     tie.close
     (tie.spec
     (λ c κs. search needs)
-    (λ c. search needs)
-    (λ c. search needs)
-    (λ c κs. search needs)
     returns
-    cast-if1
+    (λ c κs. holds c)
+    returns-2
+    (λ c κs. holds (c .before .before))
     number-fits
-    (λ c κs. let k = records (c .before) in omega (arith, below c, k .long))
+    record-at-requires
     (λ c κs. search needs)
     (λ c. search needs)
-    returns-2
     returns-3)

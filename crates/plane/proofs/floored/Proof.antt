@@ -7,8 +7,9 @@ use mir.Facts.{toZ-ofZ}
 use mir.Syntax.{w32}
 use mir.Val.{SFits, toZ, ofZ}
 use Prim.Native.Nat.{ℕ}
+use Rattle.limits.specs.Ranges.{pel-cases}
 use Rattle.whole.specs.Interval.{word, is-shr}
-use Rattle.plane.specs.Offsets.{shr-1, pel-cases}
+use Rattle.plane.specs.Offsets.{shr-1}
 use Rattle.plane.proofs.floored.Statement.{statement}
 use Rattle.plane.proofs.floored.Tie as tie
 

@@ -5,8 +5,8 @@ use lib.IntN.{ℤ, pos, _-ℤ_}
 use mir.Facts.{toZ-ofZ}
 use mir.Syntax.{w32}
 use mir.Val.{toZ, ofZ}
+use Rattle.limits.specs.Ranges.{pel-within}
 use Rattle.whole.specs.Interval.{is-arg, is-literal, ask-sub}
-use Rattle.plane.specs.Offsets.{pel-within}
 use Rattle.plane.proofs.Machine.{masked-by-pel}
 use Rattle.plane.proofs.remainder.Statement.{statement}
 use Rattle.plane.proofs.remainder.Tie as tie

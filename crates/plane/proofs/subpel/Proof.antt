@@ -6,12 +6,13 @@ use lib.Signed.{shrZ}
 use mir.Facts.{toZ-ofZ}
 use mir.Syntax.{w32, w64}
 use mir.Val.{SFits, toZ, ofZ}
+use Rattle.limits.specs.Ranges.{pel-within}
 use Rattle.whole.specs.Numbers.{modZ}
 use Rattle.whole.specs.Floor.{fit-floor}
 use Rattle.whole.specs.Interval.{Is, word, within-more, is-arg, is-cast, ask-cast, ask-add, is-add, ask-times, is-times}
 use Rattle.plane.specs.declared.Place.{Place}
 use Rattle.plane.specs.Places.{pel1Of, subpelOf}
-use Rattle.plane.specs.Offsets.{pel-within, mod-within, pel1-within}
+use Rattle.plane.specs.Offsets.{mod-within, pel1-within}
 use Rattle.plane.proofs.Machine.{kept, is-answer}
 use Rattle.plane.proofs.subpel.Statement.{statement}
 use Rattle.plane.proofs.subpel.Tie as tie

@@ -5,7 +5,7 @@ use mathlib.Core.Bool.{Bool, true, _&&_}
 use Prim.Native.Nat.{ℕ, _-_, _≤_}
 use native.Mathlib.Omega.{arith}
 use Rattle.whole.specs.Truth.{both-alike}
-use Rattle.whole.specs.Tests.{allUpto, all-none, all-next}
+use Rattle.limits.specs.Refused.{all-none, all-more}
 use Rattle.planning.specs.Refusals.{entryHolds, orderHolds}
 use Rattle.planning.proofs.order_holds.Statement.{statement}
 use Rattle.planning.proofs.order_holds.Tie as tie
@@ -17,7 +17,7 @@ abbrev μ-loop : tie.MeasureT-loop
 μ-loop grid order n all₀ i₀ all i = n - i
 
 loop-holds : tie.Need-loop-holds Inv-loop μ-loop
-loop-holds c = (omega arith, sym (all-none (entryHolds (c .args .grid) (c .args .order .now))))
+loop-holds c = (omega arith, (all-none (entryHolds (c .args .grid) (c .args .order .now))))
 
 entry-holds-requires : tie.Need-entry-holds-requires Inv-loop μ-loop
 entry-holds-requires c κs = omega arith
@@ -25,7 +25,7 @@ entry-holds-requires c κs = omega arith
 loop-again : tie.Need-loop-again Inv-loop μ-loop
 loop-again c =
     let f = entryHolds (c .before .before .before .args .grid) (c .before .before .before .args .order .now) in
-    (omega arith, both-alike (c .before .before .loop .inv .1) (c .entry-holds .ensures) ∙ sym (all-next f (c .before .before .loop .i)))
+    (omega arith, both-alike (c .before .before .loop .inv .1) (c .entry-holds .ensures) ∙ sym (all-more f (c .before .before .loop .i)))
 
 returns : tie.Need-returns Inv-loop μ-loop
 returns c =

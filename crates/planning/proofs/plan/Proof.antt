@@ -8,7 +8,7 @@ use lib.IntN.{ℤ}
 use lib.ListN.{length, drop}
 use Rattle.passes.specs.Fold.{wordsUpto, indicesUpto}
 use Rattle.planning.specs.declared.Planned.the-variants.{Done}
-use Rattle.planning.specs.Refusals.{countOf, refusalOf}
+use Rattle.planning.specs.Refusals.{blockCount, refusalOf}
 use Rattle.limits.specs.Refusals.{kept}
 use Rattle.limits.specs.Refused.{kept-refused, kept-done}
 use Rattle.planning.specs.Planned.{answered, madeOf, planAnswer, planRecords, planIndices}
@@ -22,7 +22,7 @@ returns c =
     let a = c .before .before .before .before .before .args in
     let n = c .before .refusal .result in
     let e = c .before .refusal .ensures in
-    let k = countOf (a .s .grid) in
+    let k = blockCount (a .s .grid) in
     let some : 0 < n = omega (arith, c .if1 .taken) in
     let words = wordsUpto (a .s) (a .order .now) (a .vectors .now) k ++ drop (12 * k) (a .records .now) in
     let indices = indicesUpto (a .s) (a .order .now) (a .vectors .now) k ++ drop k (a .indices .now) in (

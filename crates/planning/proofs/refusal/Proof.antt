@@ -8,12 +8,12 @@ use native.Mathlib.Omega.{arith}
 use lib.ListN.{length}
 use Rattle.passes.specs.Asked.{Served}
 use Rattle.passes.specs.Fold.{allFit}
-use Rattle.planning.specs.Refusals.{countOf, holds1, holds2, vectorsFit, holds3, orderHolds, hasRoom, refusalOf}
+use Rattle.planning.specs.Refusals.{blockCount, holds1, holds2, vectorsFit, holds3, orderHolds, hasRoom, refusalOf}
 use Rattle.planning.specs.Accepted.{settings, count-small, listed-is, held-is, served}
 use Rattle.planning.proofs.refusal.Statement.{statement}
 use Rattle.planning.proofs.refusal.Tie as tie
 
-n-is : (c : tie.After-count-of) → c .count-of .result ≡ countOf (c .before .before .before .before .before .before .args .s .grid)
+n-is : (c : tie.After-count-of) → c .count-of .result ≡ blockCount (c .before .before .before .before .before .before .args .s .grid)
 n-is c = c .count-of .ensures .0
 
 -- ---- what each test left
@@ -23,16 +23,16 @@ first c = sym (c .before .holds-1 .ensures) ∙ not-false _ (c .if1 .left)
 second : (c : tie.Else2) → holds2 (c .before .before .before .before .before .before .before .before .before .before .args .s) (length (c .before .before .before .before .before .before .before .before .before .before .args .vectors .now)) ≡ true
 second c = sym (c .before .holds-2 .ensures) ∙ not-false _ (c .if2 .left)
 
-components : (c : tie.Else3) → vectorsFit (c .before .before .before .before .before .before .before .before .before .before .before .before .args .vectors .now) (countOf (c .before .before .before .before .before .before .before .before .before .before .before .before .args .s .grid)) ≡ true
+components : (c : tie.Else3) → vectorsFit (c .before .before .before .before .before .before .before .before .before .before .before .before .args .vectors .now) (blockCount (c .before .before .before .before .before .before .before .before .before .before .before .before .args .s .grid)) ≡ true
 components c = sym (rw (n-is (c .before .before .before .before .before .before)) at (c .before .vectors-fit .ensures)) ∙ not-false _ (c .if3 .left)
 
 third : (c : tie.Else4) → holds3 (c .before .before .before .before .before .before .before .before .before .before .before .before .before .before .args .s .planes) (length (c .before .before .before .before .before .before .before .before .before .before .before .before .before .before .args .luma .now)) (length (c .before .before .before .before .before .before .before .before .before .before .before .before .before .before .args .u .now)) (length (c .before .before .before .before .before .before .before .before .before .before .before .before .before .before .args .v .now)) ≡ true
 third c = sym (c .before .holds-3 .ensures) ∙ not-false _ (c .if4 .left)
 
-fourth : (c : tie.Else5) → orderHolds (c .before .before .before .before .before .before .before .before .before .before .before .before .before .before .before .before .args .s .grid) (c .before .before .before .before .before .before .before .before .before .before .before .before .before .before .before .before .args .order .now) (countOf (c .before .before .before .before .before .before .before .before .before .before .before .before .before .before .before .before .args .s .grid)) ≡ true
+fourth : (c : tie.Else5) → orderHolds (c .before .before .before .before .before .before .before .before .before .before .before .before .before .before .before .before .args .s .grid) (c .before .before .before .before .before .before .before .before .before .before .before .before .before .before .before .before .args .order .now) (blockCount (c .before .before .before .before .before .before .before .before .before .before .before .before .before .before .before .before .args .s .grid)) ≡ true
 fourth c = sym (rw (n-is (c .before .before .before .before .before .before .before .before .before .before)) at (c .before .order-holds .ensures)) ∙ not-false _ (c .if5 .left)
 
-fifth : (c : tie.Else6) → hasRoom (countOf (c .before .before .before .before .before .before .before .before .before .before .before .before .before .before .before .before .before .before .args .s .grid)) (c .before .before .before .before .before .before .before .before .before .before .before .before .before .before .before .before .before .before .args .words) (c .before .before .before .before .before .before .before .before .before .before .before .before .before .before .before .before .before .before .args .indices) ≡ true
+fifth : (c : tie.Else6) → hasRoom (blockCount (c .before .before .before .before .before .before .before .before .before .before .before .before .before .before .before .before .before .before .args .s .grid)) (c .before .before .before .before .before .before .before .before .before .before .before .before .before .before .before .before .before .before .args .words) (c .before .before .before .before .before .before .before .before .before .before .before .before .before .before .before .before .before .before .args .indices) ≡ true
 fifth c = sym (rw (n-is (c .before .before .before .before .before .before .before .before .before .before .before .before)) at (c .before .has-room .ensures)) ∙ not-false _ (c .if6 .left)
 
 -- ---- what the calls ask

@@ -18,7 +18,7 @@ returns c =
     let a = c .before .before .before .before .args in
     let f : SFits w32 (getD (a .vectors .now) (3 * a .i) (pos 0)) = record { sfits = c .before .before .before .x .given } in
     let g : SFits w32 (getD (a .vectors .now) (3 * a .i + 1) (pos 0)) = record { sfits = c .before .before .y .given } in
-    both-alike (simp toZ-ofZ at (c .before .is-component .ensures)) (simp toZ-ofZ at (c .is-component2 .ensures))
+    both-alike (simp toZ-ofZ at (c .before .fits-i16 .ensures)) (simp toZ-ofZ at (c .fits-i162 .ensures))
 
 pub vector-fits-spec : {M : Type 1} → statement M
 vector-fits-spec =

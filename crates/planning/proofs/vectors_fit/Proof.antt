@@ -5,7 +5,7 @@ use mathlib.Core.Bool.{Bool, true, _&&_}
 use Prim.Native.Nat.{ℕ, _-_, _≤_}
 use native.Mathlib.Omega.{arith}
 use Rattle.whole.specs.Truth.{both-alike}
-use Rattle.whole.specs.Tests.{allUpto, all-none, all-next}
+use Rattle.limits.specs.Refused.{all-none, all-more}
 use Rattle.planning.specs.Refusals.{vectorFits, vectorsFit}
 use Rattle.planning.proofs.vectors_fit.Statement.{statement}
 use Rattle.planning.proofs.vectors_fit.Tie as tie
@@ -17,7 +17,7 @@ abbrev μ-loop : tie.MeasureT-loop
 μ-loop vectors n all₀ i₀ all i = n - i
 
 loop-holds : tie.Need-loop-holds Inv-loop μ-loop
-loop-holds c = (omega arith, sym (all-none (vectorFits (c .args .vectors .now))))
+loop-holds c = (omega arith, (all-none (vectorFits (c .args .vectors .now))))
 
 vector-fits-requires : tie.Need-vector-fits-requires Inv-loop μ-loop
 vector-fits-requires c κs = omega arith
@@ -25,7 +25,7 @@ vector-fits-requires c κs = omega arith
 loop-again : tie.Need-loop-again Inv-loop μ-loop
 loop-again c =
     let f = vectorFits (c .before .before .before .args .vectors .now) in
-    (omega arith, both-alike (c .before .before .loop .inv .1) (c .vector-fits .ensures) ∙ sym (all-next f (c .before .before .loop .i)))
+    (omega arith, both-alike (c .before .before .loop .inv .1) (c .vector-fits .ensures) ∙ sym (all-more f (c .before .before .loop .i)))
 
 returns : tie.Need-returns Inv-loop μ-loop
 returns c =

@@ -12,7 +12,7 @@ returns c =
     let told = c .before .before .struct-told2 .given in
     let f : SFits w32 (c .before .before .before .before .args .pair .first) = record { sfits = told .0 .1 } in
     let g : SFits w32 (c .before .before .before .before .args .pair .second) = record { sfits = told .1 .0 .1 } in
-    both-alike (simp toZ-ofZ at (c .before .within .ensures)) (simp toZ-ofZ at (c .within2 .ensures))
+    both-alike (simp toZ-ofZ at (c .before .fits-i16 .ensures)) (simp toZ-ofZ at (c .fits-i162 .ensures))
 
 pub pair-fits-spec : {M : Type 1} → statement M
 pair-fits-spec = tie.close (tie.spec (λ c κs. search needs) (λ c κs. search needs) returns)

@@ -9,13 +9,14 @@ use lib.IntN.{ℤ, pos, _*ℤ_, natAbs}
 use mir.Facts.{toZ-ofZ, toZ-pos}
 use mir.Syntax.{w32}
 use mir.Val.{SFits, toZ, ofZ}
+use Rattle.limits.specs.Ranges.{pel-within}
 use Rattle.whole.specs.Numbers.{rootOf}
 use Rattle.whole.specs.Truth.{left-of, right-of}
 use Rattle.whole.specs.Interval.{Within, Is, is-arg, within-more, ask-unsigned, ask-times, is-times, fits}
 use Rattle.limits.specs.Limits.{isFrameSide, isPel}
 use Rattle.score.specs.declared.Answer.the-variants.{Is as Answered}
 use Rattle.score.specs.Diagonal.{squared, diagonalOf, frameFits, diagonalAnswer}
-use Rattle.score.specs.Bounds.{side-within, squared-small, root-small, pel-within}
+use Rattle.score.specs.Bounds.{side-within, squared-small, root-small}
 use Rattle.score.proofs.diagonal.Statement.{statement}
 use Rattle.score.proofs.diagonal.Tie as tie
 

@@ -11,12 +11,11 @@ use lib.Signed.{ltZ}
 use mir.Facts.{toZ-ofZ}
 use mir.Syntax.{w32}
 use mir.Val.{SFits, toZ, ofZ}
-use Rattle.whole.specs.Numbers.{modZ, wrapped}
+use Rattle.whole.specs.Numbers.{modZ, wrapped, fitsI16}
 use Rattle.whole.specs.Signed.{signed, range, abs-is, got}
 use Rattle.whole.specs.Truth.{left-of, right-of}
 use Rattle.whole.specs.Interval.{Within, Is, is-arg, ask-unsigned}
 use Rattle.whole.specs.Wrapping.{masked, shifted-and-added}
-use Rattle.limits.specs.Limits.{isComponent}
 use Rattle.score.specs.declared.Answer.the-variants.{Is as Answered}
 use Rattle.score.specs.Score.{shareOf, scored, scoreFits, packedScore, scoreAnswer}
 use Rattle.score.specs.Bounds.{share-small}
@@ -33,17 +32,17 @@ module _ (c : tie.Else1) where
       let h = s .fits .diagonal in
       sym (simp toZ-ofZ at (c .before .score-fits .ensures)) ∙ not-false (c .before .score-fits .result) (c .if1 .left)
 
-  both : (isComponent (c .before .before .args .x) && isComponent (c .before .before .args .y)) ≡ true
-  both = left-of (isComponent (c .before .before .args .x) && isComponent (c .before .before .args .y)) (ltZ (pos 0) (c .before .before .args .diagonal)) accepted
+  both : (fitsI16 (c .before .before .args .x) && fitsI16 (c .before .before .args .y)) ≡ true
+  both = left-of (fitsI16 (c .before .before .args .x) && fitsI16 (c .before .before .args .y)) (ltZ (pos 0) (c .before .before .args .diagonal)) accepted
 
-  x-is : isComponent (c .before .before .args .x) ≡ true
-  x-is = left-of (isComponent (c .before .before .args .x)) (isComponent (c .before .before .args .y)) both
+  x-is : fitsI16 (c .before .before .args .x) ≡ true
+  x-is = left-of (fitsI16 (c .before .before .args .x)) (fitsI16 (c .before .before .args .y)) both
 
-  y-is : isComponent (c .before .before .args .y) ≡ true
-  y-is = right-of (isComponent (c .before .before .args .x)) (isComponent (c .before .before .args .y)) both
+  y-is : fitsI16 (c .before .before .args .y) ≡ true
+  y-is = right-of (fitsI16 (c .before .before .args .x)) (fitsI16 (c .before .before .args .y)) both
 
   positive : ltZ (pos 0) (c .before .before .args .diagonal) ≡ true
-  positive = right-of (isComponent (c .before .before .args .x) && isComponent (c .before .before .args .y)) (ltZ (pos 0) (c .before .before .args .diagonal)) accepted
+  positive = right-of (fitsI16 (c .before .before .args .x) && fitsI16 (c .before .before .args .y)) (ltZ (pos 0) (c .before .before .args .diagonal)) accepted
 
   diagonal-is : Is w32 0 2147483647 (toZ w32 (ofZ w32 (c .before .before .args .diagonal))) (c .before .before .args .diagonal)
   diagonal-is =

@@ -14,7 +14,7 @@ returns c =
     let f = s .fits .x in
     let g = s .fits .y in
     both-alike
-    (both-alike (simp toZ-ofZ at (c .before .is-component .ensures)) (simp toZ-ofZ at (c .is-component2 .ensures)))
+    (both-alike (simp toZ-ofZ at (c .before .fits-i16 .ensures)) (simp toZ-ofZ at (c .fits-i162 .ensures)))
     (ap (λ (z : ℤ). ltZ (pos 0) z) (toZ-ofZ (s .fits .diagonal)))
 
 pub score-fits-spec : {M : Type 1} → statement M

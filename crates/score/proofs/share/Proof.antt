@@ -23,15 +23,9 @@ sum-small c =
     let e = sum-is c in
     omega (arith, component-small (s .args .x) (s .pre .0), component-small (s .args .y) (s .pre .1 .0))
 
-size-requires : tie.Need-size-requires
-size-requires c κs = let f = c .fits .x in simp toZ-ofZ (c .pre .0)
-
-size-requires-2 : tie.Need-size-requires-2
-size-requires-2 c κs = let f = c .before .fits .y in simp toZ-ofZ (c .before .pre .1 .0)
-
 returns : tie.Need-returns
 returns c = ap (λ (sum : ℕ). 100 * sum / c .before .before .args .diagonal) (sum-is c)
 
 pub share-spec : {M : Type 1} → statement M
 share-spec =
-    tie.close (tie.spec size-requires size-requires-2 (λ c. omega (arith, sum-small c)) (λ c. omega (arith, sum-small c)) (λ c. search needs) returns)
+    tie.close (tie.spec (λ c κs. search needs) (λ c κs. search needs) (λ c. omega (arith, sum-small c)) (λ c. omega (arith, sum-small c)) (λ c. search needs) returns)

@@ -113,7 +113,7 @@ table-spec =
     Inv-loop
     μ-loop
     (λ c κs. c .before .before .pre .1 .ranged)
-    (λ c κs. (c .before .before .before .pre .1 .ranged, c .columns-of .ensures))
+    (λ c κs. c .before .before .before .pre .1 .ranged)
     vector-cost-requires
     (λ c. omega arith)
     loop-holds
