@@ -3,3 +3,4 @@ pub mod Fractions
 pub mod WholePart
 pub mod Nearest
 pub mod RustRoot
+pub mod RustDiagonal

@@ -1,5 +1,6 @@
 pub mod Pass
 pub mod Lists
 pub mod Evaluates
+pub mod Done
 pub mod Finishes
 pub mod ThreeCalls

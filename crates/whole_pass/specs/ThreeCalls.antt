@@ -1,80 +1,117 @@
--- The three calls as a host makes them, in buffers of just the size that each needs: what finishing leaves is the pass. Assumes nothing.
-use mathlib.Core.Path.{_≡_, refl, sym, ap, subst, _∙_}
+-- The three calls as a host makes them, in buffers that are long enough or longer. Planning is done; the request is made of the plan's settings, and the reference
+-- planes pass 2's and 3's tests. Then evaluating is done and finishing is done, what finishing leaves is the pass, and behind what each call writes its buffer
+-- holds what it held. Evaluating is handed the words that planning wrote, finishing the indices and the bests: the fronts of the buffers.
+-- Assumes nothing.
+use mathlib.Core.Path.{_≡_, refl, sym, ap, _∙_}
 use mathlib.Core.Bool.{Bool, true, cond}
-use mathlib.Core.List.{List, [], _++_, append-nil}
+use mathlib.Core.List.{List, _++_}
 use Prim.Native.Nat.{ℕ, _*_, _/_, _≤_}
-use native.Mathlib.Omega.{arith}
 use lib.IntN.{ℤ}
-use lib.ListN.{length, drop}
-use lib.Seq.{drop-length}
+use lib.ListN.{length, take, drop}
+use lib.Seq.{take-at, drop-at}
 use Rattle.limits.specs.Refused.{kept-done}
+use Rattle.block.specs.declared.Planes.{Planes}
 use Rattle.block.specs.declared.Settings.{Settings}
 use Rattle.passes.specs.Fold.{wordsUpto, indicesUpto}
+use Rattle.passes.specs.FoldLaws.{words-long, indices-long}
 use Rattle.planning.specs.Refusals.{blockCount, refusalOf}
 use Rattle.planning.specs.Planned.{madeOf, planRecords, planIndices}
 use Rattle.planning.specs.Accepted.{Accepted, accepted}
 use Rattle.evaluation.specs.declared.Request.{Request}
 use Rattle.evaluation.specs.Evaluated.{taskOf, bestsUpto, evaluateAnswer, evaluateBests}
+use Rattle.evaluation.specs.BestsLaws.{bests-long}
 use Rattle.finishing.specs.Finish.{finishAnswer, finishVectors, finishOutput}
-use Rattle.whole_pass.specs.Pass.{passVectors, passOutput}
+use Rattle.finishing.specs.Finished.{tail-stays}
+use Rattle.whole_pass.specs.Pass.{requestOf, passVectors, passOutput}
 use Rattle.whole_pass.specs.Evaluates.{record-count}
+use Rattle.whole_pass.specs.Done.{Referred, evaluation-done}
 use Rattle.whole_pass.specs.Finishes.{finishing-done, pass-vectors, pass-output}
 
--- a buffer of just so many numbers has no tail
-no-tail : (n : ℕ) (buffer : List ℤ) → length buffer ≡ n → drop n buffer ≡ []
-no-tail n buffer e = ap (λ (k : ℕ). drop k buffer) (sym e) ∙ drop-length buffer
+module _ (s : Settings) (measure : Bool) (pnew : ℤ) (reference : Planes) (order vectors : List ℤ) (luma u v referenceLuma referenceU referenceV : List ℕ)
+    (records indices bests : List ℤ)
+    (planned : refusalOf s order vectors (length luma) (length u) (length v) (length records) (length indices) ≡ 0)
+    (referred : Referred s reference (length referenceLuma) (length referenceU) (length referenceV))
+    (enough : 4 * blockCount (s .grid) ≤ length bests) where
+  abbrev pub q : Request
+  q = requestOf s measure pnew reference
 
-module _ (s : Settings) (q : Request) (order vectors : List ℤ) (luma u v referenceLuma referenceU referenceV : List ℕ)
-    (records indices bests : List ℤ) (records-long : length records ≡ 12 * blockCount (s .grid)) (indices-long : length indices ≡ blockCount (s .grid)) (bests-long : length bests ≡ 4 * blockCount (s .grid))
-    (same : q .«search_param» ≡ s .search .«search_param»)
-    (planned : refusalOf s order vectors (length luma) (length u) (length v) (length records) (length indices) ≡ 0) where
-  abbrev n : ℕ
+  abbrev pub n : ℕ
   n = blockCount (s .grid)
 
   taken : Accepted s order vectors (length records) (length indices)
   taken = accepted s order vectors (length luma) (length u) (length v) (length records) (length indices) planned
 
-  -- ---- what planning leaves
+  -- ---- what planning leaves: its words and indices, and then the tails
   abbrev pub written : List ℤ
   written = planRecords s order vectors (length luma) (length u) (length v) records (length indices)
 
   abbrev pub named : List ℤ
   named = planIndices s order vectors (length luma) (length u) (length v) (length records) indices
 
-  written-is : written ≡ wordsUpto s order vectors n
+  written-is : written ≡ wordsUpto s order vectors n ++ drop (12 * n) records
   unfolding planRecords
-  written-is =
-      kept-done _ _ records planned
-      ∙ ap (λ (tail : List ℤ). wordsUpto s order vectors n ++ tail) (no-tail (12 * n) records records-long) ∙ append-nil (wordsUpto s order vectors n)
+  written-is = kept-done _ _ records planned
 
-  named-is : named ≡ indicesUpto s order vectors n
+  named-is : named ≡ indicesUpto s order vectors n ++ drop n indices
   unfolding planIndices
-  named-is =
-      kept-done _ _ indices planned
-      ∙ ap (λ (tail : List ℤ). indicesUpto s order vectors n ++ tail) (no-tail n indices indices-long) ∙ append-nil (indicesUpto s order vectors n)
+  named-is = kept-done _ _ indices planned
 
-  -- ---- what evaluating leaves of that, where it is done
-  module _ (evaluated : evaluateAnswer q written luma u v referenceLuma referenceU referenceV (length bests) ≡ 0) where
-    abbrev pub found : List ℤ
-    found = evaluateBests q written luma u v referenceLuma referenceU referenceV bests
+  pub records-are : take (12 * n) written ≡ wordsUpto s order vectors n
+  records-are = ap (take (12 * n)) written-is ∙ take-at _ _ (12 * n) (words-long s order vectors n)
 
-    found-is : found ≡ bestsUpto (taskOf q) (wordsUpto s order vectors n) luma u v referenceLuma referenceU referenceV n
-    unfolding evaluateBests
-    found-is =
-        kept-done _ _ bests evaluated
-        ∙ ap (λ (w : List ℤ). bestsUpto (taskOf q) w luma u v referenceLuma referenceU referenceV (length w / 12) ++ drop (4 * (length w / 12)) bests) written-is
-        ∙ ap (λ (k : ℕ). bestsUpto (taskOf q) (wordsUpto s order vectors n) luma u v referenceLuma referenceU referenceV k ++ drop (4 * k) bests) (record-count s q order vectors n same (taken .fit))
-        ∙ ap (λ (tail : List ℤ). bestsUpto (taskOf q) (wordsUpto s order vectors n) luma u v referenceLuma referenceU referenceV n ++ tail) (no-tail (4 * n) bests bests-long)
-        ∙ append-nil (bestsUpto (taskOf q) (wordsUpto s order vectors n) luma u v referenceLuma referenceU referenceV n)
+  pub records-tail : drop (12 * n) written ≡ drop (12 * n) records
+  records-tail = ap (drop (12 * n)) written-is ∙ drop-at _ _ (12 * n) (words-long s order vectors n)
 
-    -- ---- what finishing then does
-    module _ (asked : Bool) (output : List ℤ) (room : asked ≡ true → 2 * n ≤ length output) where
-      pub done : finishAnswer (s .grid .x) (s .grid .y) named found (madeOf s .diagonal) asked (length vectors) (length output) ≡ 0
-      done = rw (named-is, found-is) (finishing-done s q order vectors luma u v referenceLuma referenceU referenceV taken asked (length output) room)
+  pub indices-are : take n named ≡ indicesUpto s order vectors n
+  indices-are = ap (take n) named-is ∙ take-at _ _ n (indices-long s order vectors n)
 
-      pub vectors-are : finishVectors (s .grid .x) (s .grid .y) named found (madeOf s .diagonal) asked vectors (length output) ≡ passVectors s q order vectors luma u v referenceLuma referenceU referenceV
-      vectors-are = rw (named-is, found-is) (pass-vectors s q order vectors luma u v referenceLuma referenceU referenceV taken asked output room)
+  pub indices-tail : drop n named ≡ drop n indices
+  indices-tail = ap (drop n) named-is ∙ drop-at _ _ n (indices-long s order vectors n)
 
-      pub output-is : finishOutput (s .grid .x) (s .grid .y) named found (madeOf s .diagonal) asked (length vectors) output
-          ≡ cond asked (passOutput s q order vectors luma u v referenceLuma referenceU referenceV output) output
-      output-is = rw (named-is, found-is) (pass-output s q order vectors luma u v referenceLuma referenceU referenceV taken asked output room)
+  -- ---- evaluating the words is done, and leaves four numbers a block, and then the tail
+  pub evaluated : evaluateAnswer q (take (12 * n) written) luma u v referenceLuma referenceU referenceV (length bests) ≡ 0
+  evaluated =
+      rw records-are
+      (evaluation-done s measure pnew reference order vectors luma u v referenceLuma referenceU referenceV (length records) (length indices) planned referred (length bests) enough)
+
+  abbrev pub found : List ℤ
+  found = evaluateBests q (take (12 * n) written) luma u v referenceLuma referenceU referenceV bests
+
+  abbrev each : List ℤ
+  each = bestsUpto (taskOf q) (wordsUpto s order vectors n) luma u v referenceLuma referenceU referenceV n
+
+  found-is : found ≡ each ++ drop (4 * n) bests
+  unfolding evaluateBests
+  found-is =
+      kept-done _ _ bests evaluated
+      ∙ ap (λ (w : List ℤ). bestsUpto (taskOf q) w luma u v referenceLuma referenceU referenceV (length w / 12) ++ drop (4 * (length w / 12)) bests) records-are
+      ∙ ap (λ (k : ℕ). bestsUpto (taskOf q) (wordsUpto s order vectors n) luma u v referenceLuma referenceU referenceV k ++ drop (4 * k) bests)
+      (record-count s q order vectors n refl (taken .fit))
+
+  each-long : length each ≡ 4 * n
+  each-long = bests-long (taskOf q) (wordsUpto s order vectors n) luma u v referenceLuma referenceU referenceV n
+
+  pub bests-are : take (4 * n) found ≡ each
+  bests-are = ap (take (4 * n)) found-is ∙ take-at _ _ (4 * n) each-long
+
+  pub bests-tail : drop (4 * n) found ≡ drop (4 * n) bests
+  bests-tail = ap (drop (4 * n)) found-is ∙ drop-at _ _ (4 * n) each-long
+
+  -- ---- finishing them is done, and leaves the pass. The vectors have no tail: their length is the grid's.
+  module _ (asked : Bool) (output : List ℤ) (room : asked ≡ true → 2 * n ≤ length output) where
+    pub finished : finishAnswer (s .grid .x) (s .grid .y) (take n named) (take (4 * n) found) (madeOf s .diagonal) asked (length vectors) (length output) ≡ 0
+    finished = rw (indices-are, bests-are) (finishing-done s q order vectors luma u v referenceLuma referenceU referenceV taken asked (length output) room)
+
+    pub vectors-are : finishVectors (s .grid .x) (s .grid .y) (take n named) (take (4 * n) found) (madeOf s .diagonal) asked vectors (length output)
+        ≡ passVectors s q order vectors luma u v referenceLuma referenceU referenceV
+    vectors-are = rw (indices-are, bests-are) (pass-vectors s q order vectors luma u v referenceLuma referenceU referenceV taken asked output room)
+
+    -- what finishing leaves of the output
+    abbrev pub shown : List ℤ
+    shown = finishOutput (s .grid .x) (s .grid .y) (take n named) (take (4 * n) found) (madeOf s .diagonal) asked (length vectors) output
+
+    pub output-is : shown ≡ cond asked (passOutput s q order vectors luma u v referenceLuma referenceU referenceV output) output
+    output-is = rw (indices-are, bests-are) (pass-output s q order vectors luma u v referenceLuma referenceU referenceV taken asked output room)
+
+    pub output-tail : drop (2 * n) shown ≡ drop (2 * n) output
+    output-tail = tail-stays (s .grid .x) (s .grid .y) (take n named) (take (4 * n) found) (madeOf s .diagonal) asked (length vectors) output

@@ -26,8 +26,8 @@ reference c = sym (c .before .holds-32 .ensures) ∙ not-false _ (c .if4 .left)
 room : (c : tie.Else5) → hasRoom (length (c .before .before .before .before .before .before .before .before .before .before .before .before .before .before .before .before .before .before .args .records .now)) (c .before .before .before .before .before .before .before .before .before .before .before .before .before .before .before .before .before .before .args .bests) ≡ true
 room c = sym (c .before .has-room .ensures) ∙ not-false _ (c .if5 .left)
 
-is-wide-requires : tie.Need-is-wide-requires
-is-wide-requires c κs = searched (c .before .before .before .before .before .before .before .before .before .before .before .before .before .before .before .before .before .before .args .request) (first (c .before .before .before .before .before .before .before .before))
+any-too-wide-requires : tie.Need-any-too-wide-requires
+any-too-wide-requires c κs = searched (c .before .before .before .before .before .before .before .before .before .before .before .before .before .before .before .before .before .before .args .request) (first (c .before .before .before .before .before .before .before .before))
 
 -- ---- each answer
 returns : tie.Need-returns
@@ -63,13 +63,13 @@ returns-5 c =
 returns-6 : tie.Need-returns-6
 unfolding refusalOf
 returns-6 c =
-    let e = sym (c .before .is-wide .ensures) ∙ c .if6 .taken in
+    let e = sym (c .before .any-too-wide .ensures) ∙ c .if6 .taken in
     simp (first (c .before .before .before .before .before .before .before .before .before .before), second (c .before .before .before .before .before .before .before .before), source (c .before .before .before .before .before .before), reference (c .before .before .before .before), room (c .before .before), e)
 
 returns-7 : tie.Need-returns-7
 unfolding refusalOf
 returns-7 c =
-    let e = sym (c .before .is-wide .ensures) ∙ c .if6 .left in
+    let e = sym (c .before .any-too-wide .ensures) ∙ c .if6 .left in
     simp (first (c .before .before .before .before .before .before .before .before .before .before), second (c .before .before .before .before .before .before .before .before), source (c .before .before .before .before .before .before), reference (c .before .before .before .before), room (c .before .before), e)
 
 pub refusal-spec : {M : Type 1} → statement M
@@ -86,6 +86,6 @@ refusal-spec =
     returns-4
     (λ c κs. search needs)
     returns-5
-    is-wide-requires
+    any-too-wide-requires
     returns-6
     returns-7)
