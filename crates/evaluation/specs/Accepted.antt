@@ -10,14 +10,14 @@ use lib.IntN.{ℤ, pos, negsuc, natAbs, _+ℤ_, _-ℤ_, _*ℤ_}
 use lib.ListN.{length}
 use lib.Signed.{ltZ, leZ, _≤ℤ_}
 use Prim.Native.Nat.{_%_}
-use Rattle.limits.specs.Ranges.{radius-within, shift-within}
+use Rattle.limits.specs.Ranges.{radius-within, shift-within, same-is}
 use Rattle.whole.specs.Numbers.{liesIn, fitsI16}
 use Rattle.whole.specs.Signed.{P, N, signed, abs-is, add-is, diff-is, times-is, eq-is}
 use Rattle.whole.specs.Truth.{left-of, right-of, lies-low, lies-high, three-of, four-of, five-of, six-of}
 use Rattle.whole.specs.Interval.{Within, i16-within}
 use Rattle.limits.specs.Limits.{same, isBlock, isFrameSide, isPel, areShifts, shiftedBy, radiusOf}
 use Rattle.limits.specs.Refusals.{first, anyUpto}
-use Rattle.limits.specs.Refused.{first-passed, each-fails, neither-first, neither-second}
+use Rattle.limits.specs.Refused.{first-passed, each-fails, neither-first, neither-second, let-through}
 use Rattle.records.specs.declared.Pair.{Pair}
 use Rattle.records.specs.declared.Record.{Record}
 use Rattle.records.specs.Packing.{pairFits, pairsFit}
@@ -35,7 +35,7 @@ use Rattle.best.specs.Best.{choiceOf}
 use Rattle.best.specs.Fair.{Fair}
 use Rattle.record_slice.specs.RecordSlice.{recordAt, anyWide}
 use Rattle.planning.specs.Refusals.{chromaHolds, planesHold, holds3}
-use Rattle.planning.specs.Accepted.{shifted-least, same-of}
+use Rattle.planning.specs.Accepted.{shifted-least}
 use Rattle.evaluation.specs.declared.Request.{Request}
 use Rattle.evaluation.specs.Refusals.{holds1, referenceHolds, referencesHold, holds2, hasRoom, refusalOf}
 use Rattle.evaluation.specs.Evaluated.{taskOf}
@@ -128,15 +128,15 @@ chroma-sized luma shift p a b c d e =
     let ch = shiftedBy (luma .height) (shift .y) in
     let w = shifted-least (luma .width) (shift .x) a b in
     let h = shifted-least (luma .height) (shift .y) c d in
-    let width-is = same-of cw (p .width) (left-of (same cw (p .width)) (same ch (p .height)) e) in
-    let height-is = same-of ch (p .height) (right-of (same cw (p .width)) (same ch (p .height)) e) in
+    let width-is = same-is cw (p .width) (left-of (same cw (p .width)) (same ch (p .height)) e) in
+    let height-is = same-is ch (p .height) (right-of (same cw (p .width)) (same ch (p .height)) e) in
     record { wide = rw width-is (w .0); tall = rw height-is (h .0); low = rw height-is (h .1) }
 
 reference-placed : (pel : ℤ) (source reference : Place) (n : ℕ) → Sized source → referenceHolds pel source reference ≡ true → keepsLength reference n ≡ true → Placed reference
 unfolding referenceHolds
 reference-placed pel source reference n s e kept =
     let t = four-of (limitsHold reference) (same (source .width) (reference .width)) (same (source .height) (reference .height)) (same pel (reference .pel)) e in
-    placed-of reference n (t .0) kept (same-of (source .width) (reference .width) (t .1)) (same-of (source .height) (reference .height) (t .2)) (s .wide) (s .tall) (s .low)
+    placed-of reference n (t .0) kept (same-is (source .width) (reference .width) (t .1)) (same-is (source .height) (reference .height) (t .2)) (s .wide) (s .tall) (s .low)
 
 pub searched : (q : Request) → holds1 q ≡ true → Searched q
 unfolding holds1
@@ -179,9 +179,6 @@ fair q r luma u v referenceLuma referenceU referenceV e₁ e₂ e₃ e₄ pairs 
     }
 
 -- ---- the chain: 0 where every test holds
-passed : (t : Bool) (k rest : ℕ) → first (not t) (1 + k) rest ≡ 0 → (t ≡ true) × (rest ≡ 0)
-passed t k rest e = let both = first-passed (not t) k rest e in (not-false t (both .0), both .1)
-
 pub record Accepted (q : Request) (records : List ℤ) (bests : ℕ) : Type 0 where
   pub fair-all : FairAll (taskOf q) records
   pub room : 4 * (length records / 12) ≤ bests
@@ -192,10 +189,10 @@ accepted q records luma u v referenceLuma referenceU referenceV bests e =
     let n = length records / 12 in
     let own = holds3 (q .source) luma u v in
     let other = holds3 (q .reference) referenceLuma referenceU referenceV in
-    let t₁ = passed (holds1 q) 0 _ e in
-    let t₂ = passed (holds2 q) 1 _ (t₁ .1) in
-    let t₃ = passed (own && other) 2 _ (t₂ .1) in
-    let t₅ = passed (hasRoom (length records) bests) 4 _ (t₃ .1) in
+    let t₁ = let-through (holds1 q) 0 _ e in
+    let t₂ = let-through (holds2 q) 1 _ (t₁ .1) in
+    let t₃ = let-through (own && other) 2 _ (t₂ .1) in
+    let t₅ = let-through (hasRoom (length records) bests) 4 _ (t₃ .1) in
     let t₇ = first-passed (anyWide (radiusOf (q .«search_param»)) records n) 6 0 (t₅ .1) in
     record {
       fair-all = λ i l pairs.

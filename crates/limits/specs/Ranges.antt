@@ -11,7 +11,7 @@ use Rattle.whole.specs.Truth.{left-of, right-of, either-of, lies-low, lies-high
 use Rattle.whole.specs.Interval.{Within}
 use Rattle.limits.specs.Limits.{same, isBlock, isPel, areShifts, radiusOf}
 
-same-is : (x y : ℤ) → same x y ≡ true → y ≡ x
+pub same-is : (x y : ℤ) → same x y ≡ true → y ≡ x
 same-is x y e = let low = lies-low x x y e in let high = lies-high x x y e in omega signed
 
 pub pel-cases : (pel : ℤ) → isPel pel ≡ true → (pel ≡ pos 1) ⊎ ((pel ≡ pos 2) ⊎ (pel ≡ pos 4))

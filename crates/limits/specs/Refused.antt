@@ -82,6 +82,10 @@ pub first-passed : (test : Bool) (n rest : ℕ) → first test (1 + n) rest ≡ 
 first-passed true n rest e = absurd (omega arith)
 first-passed false n rest e = (refl, e)
 
+-- the same of a test that says that a number does not apply
+pub let-through : (holds : Bool) (n rest : ℕ) → first (not holds) (1 + n) rest ≡ 0 → (holds ≡ true) × (rest ≡ 0)
+let-through holds n rest e = let both = first-passed (not holds) n rest e in (not-false holds (both .0), both .1)
+
 -- ---- a lent buffer, by the number
 module _ {A : Type 0} (number : ℕ) (written held : List A) where
   pub kept-done : number ≡ 0 → kept number written held ≡ written

@@ -11,7 +11,7 @@ use lib.Dec.{eqb, leb, lit<}
 use lib.IntN.{ℤ, pos, negsuc, natAbs, _+ℤ_, _-ℤ_, _*ℤ_}
 use lib.ListN.{length, getD}
 use lib.Signed.{ltZ, leZ, shrZ, _≤ℤ_, _<ℤ_}
-use Rattle.limits.specs.Ranges.{pel-within}
+use Rattle.limits.specs.Ranges.{pel-within, same-is}
 use Rattle.whole.specs.Numbers.{liesIn, fitsI16}
 use Rattle.whole.specs.Signed.{P, N, signed, abs-is}
 use Rattle.whole.specs.Truth.{left-of, right-of, either-of, lies-low, lies-high, three-of, four-of, five-of, six-of}
@@ -19,7 +19,7 @@ use Rattle.whole.specs.Floor.{floor-low, floor-high}
 use Rattle.whole.specs.Interval.{Within}
 use Rattle.limits.specs.Limits.{same, isBlock, isGridSide, isStep, isFrameSide, isPel, areShifts, shiftedBy, isLength, greatestLength}
 use Rattle.limits.specs.Refusals.{first}
-use Rattle.limits.specs.Refused.{first-passed, each-passes}
+use Rattle.limits.specs.Refused.{each-passes, let-through}
 use Rattle.score.specs.declared.Answer.{Answer}
 use Rattle.score.specs.declared.Answer.the-variants.{Is}
 use Rattle.score.specs.declared.Answer.the-variants as diagonal
@@ -108,12 +108,6 @@ shifted-least z s low high = by (ltZ s (pos 1))
     by : (t : Bool) → (pos 1 ≤ℤ cond t z (shrZ z 2)) × (cond t z (shrZ z 2) ≤ℤ pos 16384)
     by true = (omega signed, omega signed)
     by false = (omega (signed, floor-low {m = 2} (lit< tt) z, floor-high {m = 2} (lit< tt) z), omega (signed, floor-low {m = 2} (lit< tt) z, floor-high {m = 2} (lit< tt) z))
-
-pub same-of : (x y : ℤ) → same x y ≡ true → y ≡ x
-same-of x y e =
-    let low = lies-low x x y e in
-    let high = lies-high x x y e in
-    omega signed
 
 ends-in : (p : Place) (n : ℕ) → keepsLength p n ≡ true → lastEnd p ≤ℤ pos 1073741823
 ends-in p n e =
@@ -264,13 +258,13 @@ served s order vectors luma u v e₁ e₂ e₂′ e₃ e₄ i l =
             luma = lying (p .luma) luma (t .0) (lengths .0) refl refl (omega signed) (omega signed) (fy .frame-most);
             u =
                 lying (p .u) u (t .1) (lengths .1)
-                (same-of cw (p .u .width) (left-of (same cw (p .u .width)) (same ch (p .u .height)) (t .3)))
-                (same-of ch (p .u .height) (right-of (same cw (p .u .width)) (same ch (p .u .height)) (t .3)))
+                (same-is cw (p .u .width) (left-of (same cw (p .u .width)) (same ch (p .u .height)) (t .3)))
+                (same-is ch (p .u .height) (right-of (same cw (p .u .width)) (same ch (p .u .height)) (t .3)))
                 (sw .0) (sh .0) (sh .1);
             v =
                 lying (p .v) v (t .2) (lengths .2)
-                (same-of cw (p .v .width) (left-of (same cw (p .v .width)) (same ch (p .v .height)) (t .4)))
-                (same-of ch (p .v .height) (right-of (same cw (p .v .width)) (same ch (p .v .height)) (t .4)))
+                (same-is cw (p .v .width) (left-of (same cw (p .v .width)) (same ch (p .v .height)) (t .4)))
+                (same-is ch (p .v .height) (right-of (same cw (p .v .width)) (same ch (p .v .height)) (t .4)))
                 (sw .0) (sh .0) (sh .1);
           };
     }
@@ -296,9 +290,6 @@ framed s listed held e f =
         rw (a, b)
 
 -- ---- the chain: 0 where every test holds
-passed : (t : Bool) (k rest : ℕ) → first (not t) (1 + k) rest ≡ 0 → (t ≡ true) × (rest ≡ 0)
-passed t k rest e = let both = first-passed (not t) k rest e in (not-false t (both .0), both .1)
-
 pub record Accepted (s : Settings) (order vectors : List ℤ) (words indices : ℕ) : Type 0 where
   pub serves : Served s order vectors (blockCount (s .grid))
   pub room : 12 * blockCount (s .grid) ≤ words
@@ -312,12 +303,12 @@ pub accepted : (s : Settings) (order vectors : List ℤ) (luma u v words indices
 unfolding refusalOf
 accepted s order vectors luma u v words indices e =
     let n = blockCount (s .grid) in
-    let t₁ = passed (holds1 s (length order)) 0 _ e in
-    let t₂ = passed (holds2 s (length vectors) && vectorsFit vectors n) 1 _ (t₁ .1) in
-    let t₃ = passed (holds3 (s .planes) luma u v) 2 _ (t₂ .1) in
-    let t₄ = passed (orderHolds (s .grid) order n) 3 _ (t₃ .1) in
-    let t₅ = passed (hasRoom n words indices) 4 _ (t₄ .1) in
-    let t₆ = passed (allFit s order vectors n) 5 _ (t₅ .1) in
+    let t₁ = let-through (holds1 s (length order)) 0 _ e in
+    let t₂ = let-through (holds2 s (length vectors) && vectorsFit vectors n) 1 _ (t₁ .1) in
+    let t₃ = let-through (holds3 (s .planes) luma u v) 2 _ (t₂ .1) in
+    let t₄ = let-through (orderHolds (s .grid) order n) 3 _ (t₃ .1) in
+    let t₅ = let-through (hasRoom n words indices) 4 _ (t₄ .1) in
+    let t₆ = let-through (allFit s order vectors n) 5 _ (t₅ .1) in
     let two = left-of (holds2 s (length vectors)) (vectorsFit vectors n) (t₂ .0) in
     record {
       serves = served s order vectors luma u v (t₁ .0) two (right-of (holds2 s (length vectors)) (vectorsFit vectors n) (t₂ .0)) (t₃ .0) (t₄ .0);

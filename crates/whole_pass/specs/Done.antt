@@ -5,7 +5,7 @@ use mathlib.Core.Bool.{Bool, true, _&&_, not}
 use mathlib.Core.List.{List}
 use Prim.Native.Nat.{ℕ, _+_, _*_, _/_, _%_, _≤_}
 use native.Mathlib.Omega.{arith}
-use borrow.Author.Tests.{not-false, eq-eqb, le-leb}
+use borrow.Author.Tests.{eq-eqb, le-leb}
 use lib.Dec.{eqb, leb}
 use lib.IntN.{ℤ, pos, negsuc, _+ℤ_, _-ℤ_, _*ℤ_}
 use lib.ListN.{length}
@@ -13,8 +13,7 @@ use lib.Signed.{leZ}
 use Rattle.whole.specs.Numbers.{liesIn}
 use Rattle.whole.specs.Truth.{left-of, right-of, four-of, five-of, six-of}
 use Rattle.limits.specs.Limits.{isBlock, isFrameSide, isPel, areShifts, isStep, isGridSide}
-use Rattle.limits.specs.Refusals.{first}
-use Rattle.limits.specs.Refused.{first-passed}
+use Rattle.limits.specs.Refused.{let-through}
 use Rattle.block.specs.declared.Planes.{Planes}
 use Rattle.block.specs.declared.Settings.{Settings}
 use Rattle.passes.specs.Fold.{allFit, wordsUpto}
@@ -25,10 +24,6 @@ use Rattle.evaluation.specs.Refusals as evaluation
 use Rattle.evaluation.specs.Evaluated.{evaluateAnswer}
 use Rattle.whole_pass.specs.Pass.{requestOf}
 use Rattle.whole_pass.specs.Evaluates.{none-wide}
-
--- a test of the table that lets through
-passed : (test : Bool) (n rest : ℕ) → first (not test) (1 + n) rest ≡ 0 → (test ≡ true) × (rest ≡ 0)
-passed test n rest e = let both = first-passed (not test) n rest e in (not-false test (both .0), both .1)
 
 -- a frame's side, among what planning asks of an axis
 frame-side : (count step side frame : ℤ) → axisHolds count step side frame ≡ true → isFrameSide frame ≡ true
@@ -56,18 +51,18 @@ module _ (s : Settings) (measure : Bool) (pnew : ℤ) (reference : Planes) (orde
   pub evaluation-done : evaluateAnswer q records luma u v referenceLuma referenceU referenceV room ≡ 0
   unfolding evaluateAnswer refusalOf evaluation.refusalOf holds1 holds2 evaluation.holds1 evaluation.holds2
   evaluation-done =
-      let t₁ = passed (holds1 s (length order)) 0 _ planned in
-      let t₂ = passed (holds2 s (length vectors) && vectorsFit vectors n) 1 _ (t₁ .1) in
-      let t₃ = passed (holds3 (s .planes) (length luma) (length u) (length v)) 2 _ (t₂ .1) in
-      let t₄ = passed (orderHolds (s .grid) order n) 3 _ (t₃ .1) in
-      let t₅ = passed (hasRoom n words indices) 4 _ (t₄ .1) in
-      let t₆ = passed (allFit s order vectors n) 5 _ (t₅ .1) in
+      let t₁ = let-through (holds1 s (length order)) 0 _ planned in
+      let t₂ = let-through (holds2 s (length vectors) && vectorsFit vectors n) 1 _ (t₁ .1) in
+      let t₃ = let-through (holds3 (s .planes) (length luma) (length u) (length v)) 2 _ (t₂ .1) in
+      let t₄ = let-through (orderHolds (s .grid) order n) 3 _ (t₃ .1) in
+      let t₅ = let-through (hasRoom n words indices) 4 _ (t₄ .1) in
+      let t₆ = let-through (allFit s order vectors n) 5 _ (t₅ .1) in
       let param = liesIn (negsuc 2) (pos 3) (s .search .«search_param») in
       let a = six-of (s .search .exhaustive) (isBlock (s .block .x) (s .block .y)) (leZ (pos 2) (s .grid .x)) (leZ (pos 2) (s .grid .y))
-          (eqb (length order) (2 * n)) param (t₁ .0) in
+      (eqb (length order) (2 * n)) param (t₁ .0) in
       let two = left-of (holds2 s (length vectors)) (vectorsFit vectors n) (t₂ .0) in
       let b = five-of (sidesHold s) (isPel (s .level .pel)) (areShifts (s .shift .x) (s .shift .y)) (planesHold (s .planes) (s .shift))
-          (eqb (length vectors) (3 * n)) two in
+      (eqb (length vectors) (3 * n)) two in
       let x = axisHolds (s .grid .x) (s .step .x) (s .block .x) (s .planes .luma .width) in
       let y = axisHolds (s .grid .y) (s .step .y) (s .block .y) (s .planes .luma .height) in
       let wide = frame-side (s .grid .x) (s .step .x) (s .block .x) (s .planes .luma .width) (left-of x y (b .0)) in

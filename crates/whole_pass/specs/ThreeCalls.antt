@@ -57,16 +57,16 @@ module _ (s : Settings) (measure : Bool) (pnew : ℤ) (reference : Planes) (orde
   named-is = kept-done _ _ indices planned
 
   pub records-are : take (12 * n) written ≡ wordsUpto s order vectors n
-  records-are = ap (take (12 * n)) written-is ∙ take-at _ _ (12 * n) (words-long s order vectors n)
+  records-are = ap (take (12 * n)) written-is ∙ take-at (wordsUpto s order vectors n) _ (12 * n) (words-long s order vectors n)
 
   pub records-tail : drop (12 * n) written ≡ drop (12 * n) records
-  records-tail = ap (drop (12 * n)) written-is ∙ drop-at _ _ (12 * n) (words-long s order vectors n)
+  records-tail = ap (drop (12 * n)) written-is ∙ drop-at (wordsUpto s order vectors n) _ (12 * n) (words-long s order vectors n)
 
   pub indices-are : take n named ≡ indicesUpto s order vectors n
-  indices-are = ap (take n) named-is ∙ take-at _ _ n (indices-long s order vectors n)
+  indices-are = ap (take n) named-is ∙ take-at (indicesUpto s order vectors n) _ n (indices-long s order vectors n)
 
   pub indices-tail : drop n named ≡ drop n indices
-  indices-tail = ap (drop n) named-is ∙ drop-at _ _ n (indices-long s order vectors n)
+  indices-tail = ap (drop n) named-is ∙ drop-at (indicesUpto s order vectors n) _ n (indices-long s order vectors n)
 
   -- ---- evaluating the words is done, and leaves four numbers a block, and then the tail
   pub evaluated : evaluateAnswer q (take (12 * n) written) luma u v referenceLuma referenceU referenceV (length bests) ≡ 0
@@ -92,10 +92,10 @@ module _ (s : Settings) (measure : Bool) (pnew : ℤ) (reference : Planes) (orde
   each-long = bests-long (taskOf q) (wordsUpto s order vectors n) luma u v referenceLuma referenceU referenceV n
 
   pub bests-are : take (4 * n) found ≡ each
-  bests-are = ap (take (4 * n)) found-is ∙ take-at _ _ (4 * n) each-long
+  bests-are = ap (take (4 * n)) found-is ∙ take-at each _ (4 * n) each-long
 
   pub bests-tail : drop (4 * n) found ≡ drop (4 * n) bests
-  bests-tail = ap (drop (4 * n)) found-is ∙ drop-at _ _ (4 * n) each-long
+  bests-tail = ap (drop (4 * n)) found-is ∙ drop-at each _ (4 * n) each-long
 
   -- ---- finishing them is done, and leaves the pass. The vectors have no tail: their length is the grid's.
   module _ (asked : Bool) (output : List ℤ) (room : asked ≡ true → 2 * n ≤ length output) where
