@@ -1,10 +1,11 @@
--- 01's refusals, as numbers: its table's rows 1 to 8 in the table's order, and then what it says of the entries that a host calls. A row gives the definition that an entry's contract
--- cites a smallest input, and the number that the paper has for it. Definitions alone; the theorem is Table's.
+-- 01's refusals, as numbers: its table's rows 0 to 8 in the table's order, and then what it says of the entries that a host calls. A row gives the definition that
+-- an entry's contract cites a smallest input, and the number that the paper has for it. Definitions alone; the theorem is Table's.
 use mathlib.Core.Bool.{Bool, true, false}
-use mathlib.Core.List.{List, [], _∷_}
+use mathlib.Core.List.{List, [], _∷_, _++_}
 use Prim.Native.Nat.{ℕ}
-use lib.IntN.{ℤ, pos, negsuc}
+use lib.IntN.{ℤ, pos, negsuc, _*ℤ_}
 use lib.ListN.{replicate}
+use Rattle.records.specs.Packing.{absentWord}
 use Rattle.score.specs.Score.{scoreAnswer}
 use Rattle.score.specs.Diagonal.{diagonalAnswer}
 use Rattle.serpentine.specs.Answers.{positionRefusal, blockRefusal, orderRefusal}
@@ -20,6 +21,8 @@ use Rattle.evaluation.specs.declared.Request.{Request}
 use Rattle.evaluation.specs.Refusals as evaluation
 use Rattle.finishing.specs.Finish.{finishAnswer}
 use Rattle.plan_file.specs.PlanFile.{planOf, planNumber}
+use Rattle.plan_file.specs.Report.{headAnswer, lineAnswer, writtenNumber}
+use Rattle.plan_file.specs.Examples.{asBytes}
 use Rattle.hirupango.specs.BlockCost.{costNumber}
 use Rattle.hirupango.specs.Word.{wordNumber}
 use Rattle.hirupango.specs.Slots.{slotsAnswer}
@@ -66,17 +69,41 @@ plan s = planning.refusalOf s (order (pos 0)) (vectors (pos 0)) 256 64 64 48 4
 -- ---- evaluating the same frame against itself; a record of a window of 9x1, BAD
 abbrev request : ℤ → ℤ → Request
 request height param =
-    record { measure = false; block = sides (pos 8) height; shift = sides (pos 1) (pos 1); «search_param» = param; pnew = pos 0; pel = pos 1; source = planes (pos 1); reference = planes (pos 1) }
+    record {
+      measure = false;
+      block = sides (pos 8) height;
+      shift = sides (pos 1) (pos 1);
+      «search_param» = param;
+      pnew = pos 0;
+      pel = pos 1;
+      source = planes (pos 1);
+      reference = planes (pos 1);
+    }
 
 abbrev evaluate : ℤ → ℤ → List ℤ → ℕ → ℕ
 evaluate height param records luma = evaluation.refusalOf (request height param) records luma 64 64 256 64 64 4
 
+-- The x window is the pair (0, greatest).
+abbrev window : ℤ → List ℤ
+window greatest =
+    absentWord ∷ absentWord ∷ absentWord ∷ absentWord ∷ absentWord ∷ pos 0 ∷ pos 0 ∷ pos 0 ∷ (greatest *ℤ pos 65536) ∷ pos 0 ∷ pos 0 ∷ pos 1 ∷ []
+
 abbrev wide : List ℤ
-wide = negsuc 2147483647 ∷ negsuc 2147483647 ∷ negsuc 2147483647 ∷ negsuc 2147483647 ∷ negsuc 2147483647 ∷ pos 0 ∷ pos 0 ∷ pos 0 ∷ pos 524288 ∷ pos 0 ∷ pos 0 ∷ pos 1 ∷ []
+wide = window (pos 8)
 
 -- ---- finishing one best of a grid
 abbrev finish : ℤ → ℤ → ℤ → ℤ → ℕ → ℕ
 finish nx index x diagonal room = finishAnswer nx (pos 2) (index ∷ []) (x ∷ pos 0 ∷ pos 0 ∷ pos 0 ∷ []) diagonal true 12 room
+
+-- ---- a plan file of 80 bytes: one BAD record, radius 1, and what its two lines answer in a line of so many bytes
+abbrev file : ℤ → List ℕ
+file greatest = asBytes (window greatest) ++ asBytes (pos 48 ∷ pos 1 ∷ pos 8 ∷ pos 8 ∷ pos 2 ∷ pos 1 ∷ pos 0 ∷ pos 1 ∷ [])
+
+abbrev head : ℤ → ℕ → ℕ
+head greatest room = writtenNumber (headAnswer (file greatest) room)
+
+abbrev line : ℤ → ℕ → ℕ → ℕ
+line greatest number room = writtenNumber (lineAnswer (file greatest) number room)
 
 -- ---- a cost of two blocks of 4x4, SAD
 abbrev cost : ℤ → ℤ → ℤ → ℕ → ℕ → ℕ
@@ -84,8 +111,17 @@ cost measure height pitch held room = costNumber measure (pos 4) height (replica
 
 unfoldable pub refusals : List Row
 refusals =
+    -- "0: done": a plan without a bad block and one with the first block bad, an evaluation of one BAD record, a finishing of one best, an order, a file
+    gives (plan (searching (pos 0))) 0
+    ∷ gives (planning.refusalOf (searching (pos 0)) (order (pos 0)) (pos 0 ∷ pos 0 ∷ pos 1 ∷ replicate 9 (pos 0)) 256 64 64 48 4) 0
+    ∷ gives (evaluate (pos 8) (pos 1) (window (pos 2)) 256) 0
+    ∷ gives (finish (pos 2) (pos 0) (pos 0) (pos 1) 8) 0
+    ∷ gives (orderRefusal (pos 2) (pos 2) 8) 0
+    ∷ gives (planNumber (planOf (file (pos 2)))) 0
+    ∷ gives (head (pos 2) 57) 0
+    ∷ gives (line (pos 2) 0 131) 0
     -- "1: search not exhaustive, another block size, a grid side below 2, order length not the block count, or radius over 3"
-    gives (plan (settings false (pos 0) (pos 8) (sides (pos 2) (pos 2)) (pos 1) (pos 0))) 1
+    ∷ gives (plan (settings false (pos 0) (pos 8) (sides (pos 2) (pos 2)) (pos 1) (pos 0))) 1
     ∷ gives (plan (settings true (pos 0) (pos 16) (sides (pos 2) (pos 2)) (pos 1) (pos 0))) 1
     ∷ gives (plan (settings true (pos 0) (pos 8) (sides (pos 4) (pos 1)) (pos 1) (pos 0))) 1
     ∷ gives (planning.refusalOf (searching (pos 0)) [] (vectors (pos 0)) 256 64 64 48 4) 1
@@ -130,6 +166,15 @@ refusals =
     -- "8: a plan file's trailer breaks its rules, or the file is under 32 .. bytes"
     ∷ gives (planNumber (planOf [])) 8
     ∷ gives (planNumber (planOf (replicate 32 0))) 8
+    -- "If several apply, the lowest is given; a file is asked for 8 first": of a file with a window of 9x1 a line of 1 byte is 5, and one that is long enough is 7;
+    -- a record that isn't there is 4
+    ∷ gives (planNumber (planOf (file (pos 8)))) 7
+    ∷ gives (head (pos 8) 1) 5
+    ∷ gives (head (pos 8) 57) 7
+    ∷ gives (line (pos 8) 1 1) 4
+    ∷ gives (line (pos 8) 0 1) 5
+    ∷ gives (line (pos 8) 0 131) 7
+    ∷ gives (writtenNumber (headAnswer [] 0)) 8
     -- "Packed score answers 2 for a component beyond i16 or a diagonal of 0 or less"; "(shorter: 5)"
     ∷ gives (wordNumber 2 (scoreAnswer (pos 32768) (pos 0) (pos 0) (pos 1) (pos 0)) 4) 2
     ∷ gives (wordNumber 2 (scoreAnswer (pos 0) (pos 0) (pos 0) (pos 0) (pos 0)) 4) 2

@@ -24,9 +24,8 @@ use Rattle.plane.specs.Places.{subpelOf}
 use Rattle.axis.specs.declared.Axis.{Axis}
 use Rattle.axis.specs.Axis.{excessOf, placeOf, windowOf}
 use Rattle.block.specs.declared.Weights.{Weights}
-use Rattle.block.specs.Shapes.{lambdaOf, negativeOf, axisOf, shapeOf}
-use Rattle.block.specs.Steps.{quietRecord, quietStep, stepWith, stepOf}
-use Rattle.whole.specs.Tests.{allUpto}
+use Rattle.block.specs.Shapes.{lambdaOf, negativeOf, axisOf, shapeOf, chromaPlace, spotOf}
+use Rattle.block.specs.Steps.{filledWith, settledAt, quietRecord, badRecord, badStep, quietStep, stepWith, stepOf}
 use Rattle.limits.specs.Refusals.{anyUpto}
 use Rattle.passes.specs.Fold.{blockAt, turnAt, slotsAt, allFit}
 use Rattle.planning.specs.Refusals as planning
@@ -36,11 +35,14 @@ use Rattle.record_slice.specs.RecordSlice.{wordsFrom, recordAt}
 use Rattle.evaluation.specs.Refusals as evaluation
 use Rattle.finishing.specs.Finish.{finishAnswer}
 use Rattle.serpentine.specs.Answers.{positionRefusal, blockRefusal, orderRefusal}
-use Rattle.little_endian.specs.Bytes.{wordAt}
-use Rattle.plan_file.specs.PlanFile.{trailerOf, trailerHolds, isPlanFile, planOf}
+use Rattle.little_endian.specs.Bytes.{wordAt, bytesOf}
+use Rattle.report_text.specs.Text.{digitsBy, digits, decimal}
+use Rattle.plan_file.specs.PlanFile.{trailerOf, trailerHolds, isPlanFile, headOf, tally, planOf}
+use Rattle.plan_file.specs.PlanFile as file
+use Rattle.plan_file.specs.Report.{headText, lineText, headAnswer, lineAnswer}
 use Rattle.hirupango.specs.BlockCost.{costNumber}
 use Rattle.hirupango.specs.Slots.{slotsAnswer}
-use Rattle.numbers_to_hold.specs.Rows.{Row, is, Every}
+use Rattle.numbers_to_hold.specs.Rows.{Row, is, Every, every-of}
 use Rattle.numbers_to_hold.specs.Refusals.{refusals}
 
 -- ---- answers as numbers: 01's number, and the values where it is 0
@@ -139,6 +141,5 @@ numbersToHold =
 
 -- ---- the theorem, of these and of the refusals that the paper states as numbers
 pub all-hold : Every (numbersToHold ++ refusals)
-unfolding numbersToHold refusals packedPair packedRecord recordFits recordWords numbers walk each row sum sumZ hadamardAt tileSum diagonalAnswer diagonalOf rootOf scoreAnswer packedScore excessOf placeOf windowOf subpelOf planning.refusalOf planning.holds1 planning.holds2 planning.holds3 planning.axisHolds planning.chromaHolds planning.planesHold planning.vectorFits planning.entryHolds allUpto allFit turnAt blockAt slotsAt stepOf stepWith quietStep quietRecord negativeOf axisOf shapeOf evaluation.refusalOf evaluation.holds1 evaluation.holds2 evaluation.referenceHolds evaluation.referencesHold anyUpto isWide recordAt recordOf wordsFrom finishAnswer positionRefusal blockRefusal orderRefusal planOf isPlanFile trailerHolds trailerOf wordAt costNumber slotsAnswer
-all-hold =
-    (refl, (refl, (refl, (refl, (refl, (refl, (refl, (refl, (refl, (refl, (refl, (refl, (refl, (refl, (refl, (refl, (refl, (refl, (refl, (refl, (refl, (refl, (refl, (refl, (refl, (refl, (refl, (refl, (refl, (refl, (refl, (refl, (refl, (refl, (refl, (refl, (refl, (refl, (refl, (refl, (refl, (refl, (refl, (refl, (refl, (refl, (refl, (refl, (refl, (refl, (refl, (refl, (refl, (refl, (refl, (refl, (refl, (refl, (refl, (refl, (refl, (refl, (refl, (refl, (refl, (refl, (refl, (refl, (refl, (refl, (refl, tt)))))))))))))))))))))))))))))))))))))))))))))))))))))))))))))))))))))))
+unfolding numbersToHold refusals packedPair packedRecord recordFits recordWords numbers walk each row sum sumZ hadamardAt tileSum diagonalAnswer diagonalOf rootOf scoreAnswer packedScore excessOf placeOf windowOf subpelOf planning.refusalOf planning.holds1 planning.holds2 planning.holds3 planning.axisHolds planning.chromaHolds planning.planesHold planning.vectorFits planning.entryHolds allFit turnAt blockAt slotsAt stepOf stepWith quietStep quietRecord badStep badRecord filledWith settledAt spotOf chromaPlace negativeOf axisOf shapeOf evaluation.refusalOf evaluation.holds1 evaluation.holds2 evaluation.referenceHolds evaluation.referencesHold anyUpto isWide recordAt recordOf wordsFrom finishAnswer positionRefusal blockRefusal orderRefusal planOf isPlanFile trailerHolds trailerOf headOf tally file.recordAt file.wordsAt headText lineText headAnswer lineAnswer decimal digits digitsBy wordAt bytesOf costNumber slotsAnswer
+all-hold = every-of (numbersToHold ++ refusals) refl

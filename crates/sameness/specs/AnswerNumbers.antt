@@ -1,11 +1,12 @@
--- 01, "Code places and their forms": "When an answer is an enum, the promises use a definition that gives this paper's number and values for each case of the enum." An entry's contract
--- names the case with its values. Here is the number of that case, for each entry whose answer is an enum: it is the table's, whatever the input. Assumes nothing.
+-- 01, "Code places and their forms": "When an answer is an enum, the promises use a definition that gives this paper's number and values for each case of the
+-- enum." An entry's contract names the case with its values. Here is the number of that case, for each entry whose answer is an enum: it is the table's, whatever
+-- the input. Assumes nothing.
 use mathlib.Core.Path.{_≡_, refl}
 use mathlib.Core.Bool.{Bool, true, false, cond, not}
 use mathlib.Core.List.{List}
 use Prim.Native.Nat.{ℕ, zero, suc}
 use lib.Dec.{ltb}
-use lib.IntN.{ℤ, pos, natAbs}
+use lib.IntN.{ℤ}
 use lib.ListN.{length}
 use Rattle.limits.specs.Refusals.{first}
 use Rattle.records.specs.declared.Pair.{Pair}
@@ -19,13 +20,11 @@ use Rattle.block.specs.declared.Settings.{Settings}
 use Rattle.planning.specs.declared.Made.{Made}
 use Rattle.planning.specs.Refusals.{refusalOf}
 use Rattle.planning.specs.Planned as planned
-use Rattle.report_text.specs.declared.Written.{Written}
 use Rattle.report_text.specs.declared.Written.the-variants as written
 use Rattle.report_text.specs.Putting.{lentAnswer}
 use Rattle.plan_file.specs.declared.Plan.the-variants as plan
-use Rattle.plan_file.specs.declared.Head.{Head}
 use Rattle.plan_file.specs.PlanFile as file
-use Rattle.plan_file.specs.Report.{headText, lineText, answered, headAnswer, lineAnswer, writtenNumber}
+use Rattle.plan_file.specs.Report.{answered, headNumber, headAnswer, lineNumber, lineAnswer, writtenNumber}
 
 -- the number of an answer that is done where a test holds, and refused with n where it does not
 by-test : {X : Type 0} (number : X → ℕ) (t : Bool) {a b : X} {n : ℕ} → number a ≡ 0 → number b ≡ n → number (cond t a b) ≡ first (not t) n 0
@@ -67,7 +66,7 @@ plan-number s order vectors luma u v words indices = go (refusalOf s order vecto
     go zero made = refl
     go (suc n) made = refl
 
--- ---- plan files: 8, then 7; of a report's lines then 4 where no record has the number, and 5 where the line is too short
+-- ---- a text laid into a line: 5 where it is too short
 pub lay-number : (text : List ℕ) (room : ℕ) → writtenNumber (lentAnswer text room) ≡ first (ltb room (length text)) 5 0
 lay-number text room = go (ltb room (length text))
   where
@@ -75,47 +74,25 @@ lay-number text room = go (ltb room (length text))
     go true = refl
     go false = refl
 
-module _ (bytes : List ℕ) where
-  abbrev wide : Bool
-  wide = file.anyWide (file.trailerOf bytes .radius) bytes (natAbs (file.trailerOf bytes .count))
+-- ---- plan files: 8, then 7
+pub check-plan-file-number : (bytes : List ℕ) → file.planNumber (file.planOf bytes) ≡ first (not (file.isPlanFile bytes)) 8 (first (file.wideFile bytes) 7 0)
+unfolding file.planOf
+check-plan-file-number bytes = go (file.isPlanFile bytes) (file.wideFile bytes)
+  where
+    go : (t w : Bool) → file.planNumber (cond t (cond w (plan.Refused 7) (plan.Accepted (file.headOf bytes))) (plan.Refused 8)) ≡ first (not t) 8 (first w 7 0)
+    go true true = refl
+    go true false = refl
+    go false w = refl
 
-  -- the file's own refusals, and then the rest
-  abbrev ofFile : ℕ → ℕ
-  ofFile rest = first (not (file.isPlanFile bytes)) 8 (first wide 7 rest)
+-- ---- their report: 8, then 4 where no record has the number, then 5 and 7
+answered-number : (n : ℕ) (text : List ℕ) → writtenNumber (answered n text) ≡ n
+answered-number zero text = refl
+answered-number (suc n) text = refl
 
-  pub check-plan-file-number : file.planNumber (file.planOf bytes) ≡ ofFile 0
-  unfolding file.planOf
-  check-plan-file-number = go (file.isPlanFile bytes) wide
-    where
-      go : (t w : Bool) → file.planNumber (cond t (cond w (plan.Refused 7) (plan.Accepted (file.headOf bytes))) (plan.Refused 8)) ≡ first (not t) 8 (first w 7 0)
-      go true true = refl
-      go true false = refl
-      go false w = refl
+pub report-head-number : (bytes : List ℕ) (room : ℕ) → writtenNumber (headAnswer bytes room) ≡ headNumber bytes room
+unfolding headAnswer
+report-head-number bytes room = answered-number (headNumber bytes room) _
 
-  -- an answer that is asked of the head, where the file has one
-  of-head : (f : Head → Written) (n : ℕ) → writtenNumber (f (file.headOf bytes)) ≡ n → writtenNumber (answered (file.planOf bytes) f) ≡ ofFile n
-  unfolding file.planOf
-  of-head f n e = go (file.isPlanFile bytes) wide
-    where
-      go : (t w : Bool) → writtenNumber (answered (cond t (cond w (plan.Refused 7) (plan.Accepted (file.headOf bytes))) (plan.Refused 8)) f) ≡ first (not t) 8 (first w 7 n)
-      go true true = refl
-      go true false = e
-      go false w = refl
-
-  pub report-head-number : (room : ℕ) → writtenNumber (headAnswer bytes room) ≡ ofFile (first (ltb room (length (headText (file.headOf bytes)))) 5 0)
-  unfolding headAnswer
-  report-head-number room = of-head (λ head. lentAnswer (headText head) room) _ (lay-number (headText (file.headOf bytes)) room)
-
-  pub report-line-number : (number room : ℕ)
-      → writtenNumber (lineAnswer bytes number room)
-      ≡ ofFile (first (not (ltb number (natAbs (file.headOf bytes .count)))) 4 (first (ltb room (length (lineText (pos number) (file.recordAt bytes number)))) 5 0))
-  unfolding lineAnswer
-  report-line-number number room =
-      of-head (λ head. cond (ltb number (natAbs (head .count))) (lentAnswer text room) (written.Refused 4)) _ (go (ltb number (natAbs (file.headOf bytes .count))))
-    where
-      text : List ℕ
-      text = lineText (pos number) (file.recordAt bytes number)
-
-      go : (t : Bool) → writtenNumber (cond t (lentAnswer text room) (written.Refused 4)) ≡ first (not t) 4 (first (ltb room (length text)) 5 0)
-      go true = lay-number text room
-      go false = refl
+pub report-line-number : (bytes : List ℕ) (number room : ℕ) → writtenNumber (lineAnswer bytes number room) ≡ lineNumber bytes number room
+unfolding lineAnswer
+report-line-number bytes number room = answered-number (lineNumber bytes number room) _
