@@ -35,7 +35,8 @@ use Rattle.tables.specs.Tables.{vectorOffset, vectorCost, tableOf, slotsUsed, c
 use Rattle.tables.specs.Bounds.{Reached, Most}
 use Rattle.tables.specs.Laws.{table-most, vector-most, joined-most, costs-same, costs-of-offsets}
 use Rattle.best.specs.declared.Task.{Task}
-use Rattle.best.specs.Best.{noTable, widthOf, heightOf, choiceOf, sourceBlock, lumaReference, lumaCost, lumaTable, chromaWidth, chromaHeight, chromaReference, chromaCost, scaleOf, planeTable, chromaTable, chromasOf}
+use Rattle.best.specs.Best.{noTable, widthOf, heightOf, choiceOf, sourceBlock, lumaReference, lumaCost, lumaTable}
+use Rattle.best.specs.Best.{chromaWidth, chromaHeight, chromaReference, chromaCost, scaleOf, planeTable, chromaTable, chromasOf}
 use Rattle.best.specs.Fair.{Fair}
 
 -- ---- "Block 8x8, 16x8 or 16x16": what holds at each of the three holds at every accepted block
@@ -83,7 +84,8 @@ sized m n a b c d e =
 
 -- a block's own sides, and halved
 halved-or-not : (halve : Bool) (w h : ℤ) → isBlock w h ≡ true → Sized (natAbs (cond halve (shrZ w 2) w)) (natAbs (cond halve (shrZ h 2) h))
-halved-or-not true = at-each-block (λ x y. Sized (natAbs (shrZ x 2)) (natAbs (shrZ y 2))) (sized 1 1 tt tt tt tt refl) (sized 2 1 tt tt tt tt refl) (sized 2 2 tt tt tt tt refl)
+halved-or-not true =
+    at-each-block (λ x y. Sized (natAbs (shrZ x 2)) (natAbs (shrZ y 2))) (sized 1 1 tt tt tt tt refl) (sized 2 1 tt tt tt tt refl) (sized 2 2 tt tt tt tt refl)
 halved-or-not false = at-each-block (λ x y. Sized (natAbs x) (natAbs y)) (sized 2 2 tt tt tt tt refl) (sized 4 2 tt tt tt tt refl) (sized 4 4 tt tt tt tt refl)
 
 -- ---- parts that fit i16
@@ -138,8 +140,12 @@ module _ {task : Task} {given : Record} (fair : Fair task given) where
   pub height-counts : Counts (task .block .y)
   height-counts = within-more height-in tt tt
 
-  pairs-in : (pairFits (given .pos) ≡ true) × (pairFits (given .cpos) ≡ true) × (pairFits (given .predictor) ≡ true) × (pairFits (given .«window_x») ≡ true) × (pairFits (given .«window_y») ≡ true)
-  pairs-in = five-of (pairFits (given .pos)) (pairFits (given .cpos)) (pairFits (given .predictor)) (pairFits (given .«window_x»)) (pairFits (given .«window_y»)) (fair .pairs)
+  pairs-in :
+      (pairFits (given .pos) ≡ true) × (pairFits (given .cpos) ≡ true) × (pairFits (given .predictor) ≡ true)
+      × (pairFits (given .«window_x») ≡ true) × (pairFits (given .«window_y») ≡ true)
+  pairs-in =
+      five-of (pairFits (given .pos)) (pairFits (given .cpos)) (pairFits (given .predictor))
+      (pairFits (given .«window_x»)) (pairFits (given .«window_y»)) (fair .pairs)
 
   pub luma-reached : Reached (lumaReference task given)
   luma-reached =
@@ -167,28 +173,36 @@ module _ {task : Task} {given : Record} (fair : Fair task given) where
       by (negsuc n) p = absurd (omega arith)
 
   -- ---- how large costs are, between bytes
-  pub luma-cost-most : (luma reference : List ℕ) → ((n : ℕ) → getD luma n 0 < 256) → ((n : ℕ) → getD reference n 0 < 256) → (x y : ℤ) → lumaCost task given luma reference x y ≤ 130560
+  pub luma-cost-most : (luma reference : List ℕ) → ((n : ℕ) → getD luma n 0 < 256) → ((n : ℕ) → getD reference n 0 < 256) →
+      (x y : ℤ) → lumaCost task given luma reference x y ≤ 130560
   luma-cost-most luma reference p q =
-      vector-most (task .measure) (widthOf task given) (heightOf task given) (sourceBlock task given luma) reference (task .reference .luma) (lumaReference task given) (searched-sized .wide) (searched-sized .high)
-      (λ y x. source-byte luma p (natAbs (task .source .luma .pitch)) (given .full) (given .overlay) (natAbs (task .block .x)) (natAbs (task .block .y)) (y * widthOf task given + x)) q
+      vector-most (task .measure) (widthOf task given) (heightOf task given) (sourceBlock task given luma) reference
+      (task .reference .luma) (lumaReference task given) (searched-sized .wide) (searched-sized .high)
+      (λ y x. source-byte luma p (natAbs (task .source .luma .pitch)) (given .full) (given .overlay)
+      (natAbs (task .block .x)) (natAbs (task .block .y)) (y * widthOf task given + x)) q
 
-  pub luma-most : (luma reference : List ℕ) → ((n : ℕ) → getD luma n 0 < 256) → ((n : ℕ) → getD reference n 0 < 256) → Most 130560 (lumaTable task given luma reference)
+  pub luma-most : (luma reference : List ℕ) → ((n : ℕ) → getD luma n 0 < 256) → ((n : ℕ) → getD reference n 0 < 256) →
+      Most 130560 (lumaTable task given luma reference)
   unfolding lumaTable
   luma-most luma reference p q = table-most 130560 (choiceOf task given) (lumaCost task given luma reference) (luma-cost-most luma reference p q)
 
-  pub plane-most : (origin : Offset) (source own : Place) (samples reference : List ℕ) → ((n : ℕ) → getD samples n 0 < 256) → ((n : ℕ) → getD reference n 0 < 256) →
+  pub plane-most : (origin : Offset) (source own : Place) (samples reference : List ℕ) →
+      ((n : ℕ) → getD samples n 0 < 256) → ((n : ℕ) → getD reference n 0 < 256) →
       Most 130560 (planeTable task given origin source own samples reference)
   unfolding planeTable
   plane-most origin source own samples reference p q =
       table-most 130560 (choiceOf task given) (chromaCost task given origin source own samples reference)
-      (vector-most (task .measure) (chromaWidth task given) (chromaHeight task given) (placedFrom samples origin (natAbs (source .pitch))) reference own (chromaReference task given) (chroma-sized .wide) (chroma-sized .high)
+      (vector-most (task .measure) (chromaWidth task given) (chromaHeight task given) (placedFrom samples origin (natAbs (source .pitch)))
+      reference own (chromaReference task given) (chroma-sized .wide) (chroma-sized .high)
       (placed-byte samples p origin (natAbs (source .pitch))) q)
 
-  pub chroma-most : (u v referenceU referenceV : List ℕ) → ((n : ℕ) → getD u n 0 < 256) → ((n : ℕ) → getD v n 0 < 256) → ((n : ℕ) → getD referenceU n 0 < 256) → ((n : ℕ) → getD referenceV n 0 < 256) →
+  pub chroma-most : (u v referenceU referenceV : List ℕ) → ((n : ℕ) → getD u n 0 < 256) → ((n : ℕ) → getD v n 0 < 256) →
+      ((n : ℕ) → getD referenceU n 0 < 256) → ((n : ℕ) → getD referenceV n 0 < 256) →
       Most 1044480 (chromaTable task given u v referenceU referenceV)
   unfolding chromaTable
   chroma-most u v referenceU referenceV p q r s =
-      joined-most (plane-most (given .u) (task .source .u) (task .reference .u) u referenceU p r) (plane-most (given .v) (task .source .v) (task .reference .v) v referenceV q s) scale-most
+      joined-most (plane-most (given .u) (task .source .u) (task .reference .u) u referenceU p r)
+      (plane-most (given .v) (task .source .v) (task .reference .v) v referenceV q s) scale-most
 
 -- ---- which chroma table counts
 first-taken : (t : Bool) (a b : List ℕ) → t ≡ true → a ≡ cond t a b
@@ -216,14 +230,17 @@ module _ {k : Choice} (served : Served k) (measure : Bool) (w h : ℕ) (samples 
       costs-same measure w h a b samples place (tableOf (pos 0) k (vectorOffset r)) (slotsUsed k) e
       ∙ costs-of-offsets served (placeCost measure w h b samples place) (vectorOffset r)
 
-  pub table-of-samples : {out : List ℕ} (f : ℕ → ℕ) → w ≤ 16 → h ≤ 16 → out ≡ gathered (h * w) f → costsOf (blockOf out w) ≡ tableOf 0 k (vectorCost measure w h (λ y x. f (y * w + x)) samples place r)
+  pub table-of-samples : {out : List ℕ} (f : ℕ → ℕ) → w ≤ 16 → h ≤ 16 → out ≡ gathered (h * w) f →
+      costsOf (blockOf out w) ≡ tableOf 0 k (vectorCost measure w h (λ y x. f (y * w + x)) samples place r)
   table-of-samples f wide high e = rw e (costs-of _ _ (gathered-rows w h f wide high))
 
-  pub table-of-block : {out : List ℕ} (block : Block) → w ≤ 16 → h ≤ 16 → out ≡ gathered (h * w) (nth w block) → costsOf (blockOf out w) ≡ tableOf 0 k (vectorCost measure w h block samples place r)
+  pub table-of-block : {out : List ℕ} (block : Block) → w ≤ 16 → h ≤ 16 → out ≡ gathered (h * w) (nth w block) →
+      costsOf (blockOf out w) ≡ tableOf 0 k (vectorCost measure w h block samples place r)
   table-of-block block wide high e = rw e (costs-of _ _ (gathered-block w h block wide high))
 
 -- ---- a block that isn't bad looks at no table
-pub not-looked-at : (k : Choice) (bad negative : Bool) (sad : ℤ) (l c l′ c′ : List ℕ) → bad ≡ false → selected k bad negative sad l c ≡ selected k bad negative sad l′ c′
+pub not-looked-at : (k : Choice) (bad negative : Bool) (sad : ℤ) (l c l′ c′ : List ℕ) →
+    bad ≡ false → selected k bad negative sad l c ≡ selected k bad negative sad l′ c′
 unfolding selected
 not-looked-at k true negative sad l c l′ c′ e = absurd (holds (sym e))
 not-looked-at k false negative sad l c l′ c′ e = refl

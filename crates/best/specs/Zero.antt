@@ -27,7 +27,8 @@ use Rattle.tables.specs.Tables.{vectorOffset, tableOf}
 use Rattle.tables.specs.Laws.{inside, slot-0, slot-candidate, slot-joined}
 use Rattle.best.specs.declared.Task.{Task}
 use Rattle.best.specs.declared.Best.{Best}
-use Rattle.best.specs.Best.{noTable, widthOf, heightOf, choiceOf, sourceBlock, lumaReference, lumaCost, lumaTable, chromaWidth, chromaHeight, chromaReference, uCost, vCost, scaleOf, planeTable, chromaTable, chromasOf, bestOf}
+use Rattle.best.specs.Best.{noTable, widthOf, heightOf, choiceOf, sourceBlock, lumaReference, lumaCost, lumaTable}
+use Rattle.best.specs.Best.{chromaWidth, chromaHeight, chromaReference, uCost, vCost, scaleOf, planeTable, chromaTable, chromasOf, bestOf}
 use Rattle.best.specs.Fair.{Fair}
 use Rattle.best.specs.Laws.{Sized, searched-sized, chroma-sized, luma-cost-most}
 
@@ -55,7 +56,8 @@ scaled-0 {a} {b} n e =
     let more = mul-le-mul {n₁ = a + b} {m₁ = 1} {n₂ = a + b} {m₂ = 4 ^ n} (omega arith) (one-le-pow n 4 (omega arith)) in
     (omega arith, omega arith)
 
-none-of : {l a b : ℕ} (negative : Bool) (scale : ℕ) → l ≡ 0 → (negative ≡ false → a ≡ 0) → (negative ≡ false → b ≡ 0) → l + cond negative 0 ((a + b) * scale) ≡ 0
+none-of : {l a b : ℕ} (negative : Bool) (scale : ℕ) →
+    l ≡ 0 → (negative ≡ false → a ≡ 0) → (negative ≡ false → b ≡ 0) → l + cond negative 0 ((a + b) * scale) ≡ 0
 none-of true scale e f g = omega arith
 none-of {l} {a} {b} false scale e f g = rw (e, f refl, g refl) (omega arith)
 
@@ -82,7 +84,9 @@ module _ (task : Task) (given : Record) (luma u v referenceLuma referenceU refer
 
   -- ---- all samples compared at a vector agree
   pub record AgreeAt (x y : ℤ) : Type 0 where
-    pub in-luma : Agree (widthOf task given) (heightOf task given) (sourceBlock task given luma) (placeBlock referenceLuma (task .reference .luma) (vectorOffset (lumaReference task given) x y))
+    pub in-luma :
+        Agree (widthOf task given) (heightOf task given)
+        (sourceBlock task given luma) (placeBlock referenceLuma (task .reference .luma) (vectorOffset (lumaReference task given) x y))
     pub in-u : isNegative given ≡ false →
         Agree (chromaWidth task given) (chromaHeight task given)
         (placedFrom u (given .u) (natAbs (task .source .u .pitch))) (placeBlock referenceU (task .reference .u) (vectorOffset (chromaReference task given) x y))
@@ -109,7 +113,9 @@ module _ (task : Task) (given : Record) (luma u v referenceLuma referenceU refer
     unfolding lumaTable
     luma-held = of (lumaCost task given luma referenceLuma)
 
-    chroma-held : (negative : Bool) → getD (cond negative noTable (chromaTable task given u v referenceU referenceV)) slot 0 ≡ cond negative 0 ((uCost task given u referenceU x y + vCost task given v referenceV x y) * scaleOf task given)
+    chroma-held : (negative : Bool) →
+        getD (cond negative noTable (chromaTable task given u v referenceU referenceV)) slot 0
+        ≡ cond negative 0 ((uCost task given u referenceU x y + vCost task given v referenceV x y) * scaleOf task given)
     unfolding chromaTable planeTable
     chroma-held true = getD-replicate {A = ℕ} 50 slot 0 0 l
     chroma-held false =

@@ -1,5 +1,5 @@
--- 01, "Port order and what changes shape": "A plane is a view: its bytes, base, pitch, sides and pel in one struct that refers to them; few functions take it." Two definitions, an example
--- by computation, and what a cost asks of its callers.
+-- 01, "Port order and what changes shape": "A plane is a view: its bytes, base, pitch, sides and pel in one struct that refers to them; few functions
+-- take it." What is told of a plane's bytes and place, what a cost asks of its callers, and an example by computation.
 use mathlib.Core.Path.{_≡_, refl}
 use mathlib.Core.Bool.{Bool}
 use mathlib.Core.List.{List, [], _∷_}
@@ -23,7 +23,7 @@ abbrev pub placeCost : Bool → ℕ → ℕ → Block → List ℕ → Place →
 placeCost measure w h block bytes place at = costOf measure w h block (placeBlock bytes place at)
 
 -- a packed block of at most 16 x 16 samples
-pub record Packed (w h : ℕ) (block : List ℕ) : Type 0 where
+pub record PackedBlock (w h : ℕ) (block : List ℕ) : Type 0 where
   pub wide : w ≤ 16
   pub some : 0 < h
   pub high : h ≤ 16
@@ -32,7 +32,7 @@ pub record Packed (w h : ℕ) (block : List ℕ) : Type 0 where
 -- what a cost asks: a plane that can be read, a packed block, and an offset whose steps stay in 64 bits
 pub record Costed (place : Place) (w h : ℕ) (block : List ℕ) (at : ℤ) : Type 0 where
   pub placed : Placed place
-  pub packed : Packed w h block
+  pub packed : PackedBlock w h block
   pub near : Near at
 
 -- of two bytes in a row from base 0 on, (1,0) is the second, and (-1,0) is no byte

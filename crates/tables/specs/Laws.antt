@@ -28,7 +28,8 @@ use Rattle.choosing.specs.Choosing.{countOf, columnsOf, rowsOf, slotOf}
 use Rattle.choosing.specs.Bounds.{Served, Small}
 use Rattle.choosing.specs.Answers.{rows-counted}
 use Rattle.tables.specs.declared.Reference.{Reference}
-use Rattle.tables.specs.Tables.{vectorOffset, vectorCost, windowOf, withRow, withRows, withPredictor, tableOf, slotsUsed, costsUpto, joinedUpto, joined}
+use Rattle.tables.specs.Tables.{vectorOffset, vectorCost, candidateOf, withRow, withRows, withPredictor, tableOf}
+use Rattle.tables.specs.Tables.{slotsUsed, costsUpto, joinedUpto, joined}
 use Rattle.tables.specs.Bounds.{Nearby, Most}
 
 -- ---- numbers
@@ -45,7 +46,7 @@ module _ {A : Type 0} (none : A) (k : Choice) (of : ℤ → ℤ → A) where
   unfolding withRow
   row-none j t = refl
 
-  pub row-next : (j n : ℕ) (t : List A) → withRow none k of j (n + 1) t ≡ set (withRow none k of j n t) (slotOf k j n) (windowOf k of j n)
+  pub row-next : (j n : ℕ) (t : List A) → withRow none k of j (n + 1) t ≡ set (withRow none k of j n t) (slotOf k j n) (candidateOf k of j n)
   unfolding withRow
   row-next j n t = rw add-one
 
@@ -112,7 +113,7 @@ module _ {A : Type 0} (none : A) (k : Choice) (of : ℤ → ℤ → A) where
   unfolding withRow
   row-keeps j zero slot t other = refl
   row-keeps j (suc n) slot t other =
-      getD-set-other (withRow none k of j n t) (slotOf k j n) slot (windowOf k of j n) none (λ e. other n (omega arith) (omega arith))
+      getD-set-other (withRow none k of j n t) (slotOf k j n) slot (candidateOf k of j n) none (λ e. other n (omega arith) (omega arith))
       ∙ row-keeps j n slot t (λ i l. other i (omega arith))
 
   keeps-0 : (n : ℕ) (t : List A) → getD (withRows none k of n t) 0 none ≡ getD t 0 none
@@ -127,20 +128,21 @@ module _ {A : Type 0} (none : A) (k : Choice) (of : ℤ → ℤ → A) where
       keeps-0 (rowsOf k) (withPredictor none k of)
       ∙ getD-set-same (replicate 50 none) 0 (of (k .x) (k .y)) none (omega (arith, length-replicate 50 none))
 
-  row-holds : (j n i : ℕ) (t : List A) → i < n → slotOf k j i < length t → getD (withRow none k of j n t) (slotOf k j i) none ≡ windowOf k of j i
+  row-holds : (j n i : ℕ) (t : List A) → i < n → slotOf k j i < length t → getD (withRow none k of j n t) (slotOf k j i) none ≡ candidateOf k of j i
   unfolding withRow slotOf
   row-holds j zero i t l m = absurd (omega arith)
   row-holds j (suc n) i t l m =
       ⊎-elim
       (λ (b : i < n).
-      getD-set-other (withRow none k of j n t) (slotOf k j n) (slotOf k j i) (windowOf k of j n) none (λ e. omega arith)
+      getD-set-other (withRow none k of j n t) (slotOf k j n) (slotOf k j i) (candidateOf k of j n) none (λ e. omega arith)
       ∙ row-holds j n i t b m)
       (λ b.
       let same : i ≡ n = omega arith in
-      rw same (getD-set-same (withRow none k of j n t) (slotOf k j n) (windowOf k of j n) none (omega (arith, long-row j n t))))
+      rw same (getD-set-same (withRow none k of j n t) (slotOf k j n) (candidateOf k of j n) none (omega (arith, long-row j n t))))
       (lt-or-ge i n)
 
-  rows-hold : (n j i : ℕ) (t : List A) → j < n → i < columnsOf k → slotOf k j i < length t → getD (withRows none k of n t) (slotOf k j i) none ≡ windowOf k of j i
+  rows-hold : (n j i : ℕ) (t : List A) → j < n → i < columnsOf k → slotOf k j i < length t →
+      getD (withRows none k of n t) (slotOf k j i) none ≡ candidateOf k of j i
   unfolding withRows slotOf
   rows-hold zero j i t l m h = absurd (omega arith)
   rows-hold (suc n) j i t l m h =
@@ -154,7 +156,7 @@ module _ {A : Type 0} (none : A) (k : Choice) (of : ℤ → ℤ → A) where
       (lt-or-ge j n)
 
   -- and slot 1 + j x columns + i the candidate's in column i of row j
-  pub slot-candidate : {j i : ℕ} → Served k → j < rowsOf k → i < columnsOf k → getD (tableOf none k of) (slotOf k j i) none ≡ windowOf k of j i
+  pub slot-candidate : {j i : ℕ} → Served k → j < rowsOf k → i < columnsOf k → getD (tableOf none k of) (slotOf k j i) none ≡ candidateOf k of j i
   unfolding tableOf slotOf
   slot-candidate {j} {i} p l m =
       rows-hold (rowsOf k) j i (withPredictor none k of) l m (omega (arith, inside p l m .slot, long-start))
@@ -171,8 +173,11 @@ module _ (scale : ℕ) (u v : List ℕ) where
   upto-holds zero slot k l = absurd (omega arith)
   upto-holds (suc n) slot k l =
       ⊎-elim
-      (λ (b : slot < n). getD-set-other (joinedUpto scale u v n) n slot ((getD u n 0 + getD v n 0) * scale) 0 (λ e. omega arith) ∙ upto-holds n slot (omega arith) b)
-      (λ b. let same : slot ≡ n = omega arith in rw same (getD-set-same (joinedUpto scale u v n) n ((getD u n 0 + getD v n 0) * scale) 0 (omega (arith, long-joined n))))
+      (λ (b : slot < n). getD-set-other (joinedUpto scale u v n) n slot ((getD u n 0 + getD v n 0) * scale) 0 (λ e. omega arith)
+      ∙ upto-holds n slot (omega arith) b)
+      (λ b.
+      let same : slot ≡ n = omega arith in
+      rw same (getD-set-same (joinedUpto scale u v n) n ((getD u n 0 + getD v n 0) * scale) 0 (omega (arith, long-joined n))))
       (lt-or-ge slot n)
 
   pub slot-joined : {slot : ℕ} → slot < 50 → getD (joined scale u v) slot 0 ≡ (getD u slot 0 + getD v slot 0) * scale
@@ -211,11 +216,12 @@ module _ {k : Choice} (served : Served k) (cost : ℤ → ℕ) (offset-of : ℤ 
   abbrev after : ℕ → List ℕ
   after n = withRows 0 k each n (withPredictor 0 k each)
 
-  upto-row : (j i : ℕ) → j < rowsOf k → i ≤ columnsOf k → costsUpto cost offsets (1 + j * columnsOf k) ≡ after j → costsUpto cost offsets (1 + j * columnsOf k + i) ≡ withRow 0 k each j i (after j)
+  upto-row : (j i : ℕ) → j < rowsOf k → i ≤ columnsOf k → costsUpto cost offsets (1 + j * columnsOf k) ≡ after j →
+      costsUpto cost offsets (1 + j * columnsOf k + i) ≡ withRow 0 k each j i (after j)
   unfolding withRow slotOf
   upto-row j zero l m e = ap (costsUpto cost offsets) (omega arith) ∙ e
   upto-row j (suc i) l m e =
-      let held : getD offsets (slotOf k j i) (pos 0) ≡ windowOf k offset-of j i = slot-candidate (pos 0) k offset-of served l (omega arith) in
+      let held : getD offsets (slotOf k j i) (pos 0) ≡ candidateOf k offset-of j i = slot-candidate (pos 0) k offset-of served l (omega arith) in
       ap (costsUpto cost offsets) (omega arith)
       ∙ costs-next cost offsets (slotOf k j i)
       ∙ ap (λ (t : List ℕ). set t (slotOf k j i) (cost (getD offsets (slotOf k j i) (pos 0)))) (upto-row j i l (omega arith) e)
@@ -279,7 +285,8 @@ module _ (m : ℕ) (k : Choice) (cost : ℤ → ℤ → ℕ) (below : (x y : ℤ
   table-most = record { most = rows-most (rowsOf k) (withPredictor 0 k cost) (set-all 0 (UpTo m) (replicate 50 0) 0 _ (most-zeros m .most) (below _ _)) }
 
 -- between bytes a vector's are at most 130,560
-pub vector-most : (measure : Bool) (w h : ℕ) (block : Block) (samples : List ℕ) (place : Place) (r : Reference) → w ≤ 16 → h ≤ 16 → Bytes block → ((n : ℕ) → getD samples n 0 < 256) →
+pub vector-most : (measure : Bool) (w h : ℕ) (block : Block) (samples : List ℕ) (place : Place) (r : Reference) →
+    w ≤ 16 → h ≤ 16 → Bytes block → ((n : ℕ) → getD samples n 0 < 256) →
     (vx vy : ℤ) → vectorCost measure w h block samples place r vx vy ≤ 130560
 vector-most measure w h block samples place r k l bytes read vx vy =
     cost-most block (placeBlock samples place (vectorOffset r vx vy)) bytes (λ y x. sample-byte samples read _) measure w h k l

@@ -18,21 +18,21 @@ use Rattle.tables.specs.declared.Reference.{Reference}
 unfoldable pub vectorOffset : Reference → ℤ → ℤ → ℤ
 vectorOffset r vx vy = subpelOf (r .place) (r .x +ℤ shiftedBy vx (r .shift)) (r .y +ℤ shiftedBy vy (r .shift))
 
--- the cost of a vector: of the source's w x h samples against the plane's from the vector's offset on. The offset is worked out by one plane's reference, and the samples are
--- of the plane given, which steps by its own pitch: "Reference V starts at the offset worked out for U and steps by V's own pitch." Luma and U give both themselves.
+-- the cost of a vector: of the source's w x h samples against a plane's from the vector's offset on. The reference gives the offset, and the plane steps by
+-- its own pitch: "Reference V starts at the offset worked out for U and steps by V's own pitch." Luma and U are read at offsets of their own.
 abbrev pub vectorCost : Bool → ℕ → ℕ → Block → List ℕ → Place → Reference → ℤ → ℤ → ℕ
 vectorCost measure w h block samples place r vx vy = placeCost measure w h block samples place (vectorOffset r vx vy)
 
 -- ---- a table of 50: "Slots are 1 + (2 x radius + 1) squared", at the greatest radius
 -- Slot 0 is the predictor's, then come the window's candidates, "row by row", and `none` in the rest. It holds offsets or costs.
-abbrev pub windowOf : {A : Type 0} → Choice → (ℤ → ℤ → A) → ℕ → ℕ → A
-windowOf k of j i = of (k .«least_x» +ℤ pos i) (k .«least_y» +ℤ pos j)
+abbrev pub candidateOf : {A : Type 0} → Choice → (ℤ → ℤ → A) → ℕ → ℕ → A
+candidateOf k of j i = of (k .«least_x» +ℤ pos i) (k .«least_y» +ℤ pos j)
 
 module _ {A : Type 0} (none : A) (k : Choice) (of : ℤ → ℤ → A) where
   -- with the first n candidates of row j, and with the first n rows
   unfoldable pub withRow : ℕ → ℕ → List A → List A
   withRow j zero t = t
-  withRow j (suc n) t = set (withRow j n t) (slotOf k j n) (windowOf k of j n)
+  withRow j (suc n) t = set (withRow j n t) (slotOf k j n) (candidateOf k of j n)
 
   unfoldable pub withRows : ℕ → List A → List A
   withRows zero t = t
@@ -48,7 +48,8 @@ module _ {A : Type 0} (none : A) (k : Choice) (of : ℤ → ℤ → A) where
 abbrev pub slotsUsed : Choice → ℕ
 slotsUsed k = 1 + rowsOf k * columnsOf k
 
--- ---- costs from offsets: of the first n slots, each from its own offset on, and 0 in the rest. Of a table of offsets they are the table of costs (Laws, `costs-of-offsets`)
+-- ---- costs from offsets: of the first n slots, each from its own offset on, and 0 in the rest. Of a table of offsets they are the table of costs
+-- (Laws, `costs-of-offsets`)
 unfoldable pub costsUpto : (ℤ → ℕ) → List ℤ → ℕ → List ℕ
 costsUpto cost offsets zero = replicate 50 0
 costsUpto cost offsets (suc n) = set (costsUpto cost offsets n) n (cost (getD offsets n (pos 0)))

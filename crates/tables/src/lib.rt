@@ -8,9 +8,9 @@ ghost use lib.IntN.{pos};
 ghost use Rattle.whole.specs.Interval.{Within};
 ghost use Rattle.distance.specs.Distance.{blockOf};
 ghost use Rattle.plane.specs.Places.{Placed, Near};
-ghost use Rattle.plane_view.specs.View.{placeCost, Packed};
+ghost use Rattle.plane_view.specs.View.{placeCost, PackedBlock};
 ghost use Rattle.choosing.specs.Bounds.{Served};
-ghost use Rattle.tables.specs.Tables.{vectorOffset, windowOf, tableOf, slotsUsed, costsUpto, joined};
+ghost use Rattle.tables.specs.Tables.{vectorOffset, candidateOf, tableOf, slotsUsed, costsUpto, joined};
 ghost use Rattle.tables.specs.Bounds.{Reached, Nearby, Most};
 
 // Where a plane's candidates stand: its place, the position of the zero vector, and the shift of a
@@ -41,7 +41,7 @@ fn vector_offset(samples: &[u8], reference: Reference, vx: i32, vy: i32) -> i64
 fn window_offset(samples: &[u8], reference: Reference, choice: Choice, j: usize, i: usize) -> i64
     requires { ⌜ Reached reference ⌝ }
     requires { ⌜ Served choice × ((j < 7) × (i < 7)) ⌝ }
-    ensures { λ r. ⌜ r ≡ windowOf choice (vectorOffset reference) j i ⌝ }
+    ensures { λ r. ⌜ r ≡ candidateOf choice (vectorOffset reference) j i ⌝ }
     ensures { λ r. ⌜ Near r ⌝ }
 {
     let vx = choosing::x_at(choice, i);
@@ -89,7 +89,7 @@ pub fn costs(
     offsets: &[i64; 50],
     choice: Choice,
 ) -> [u32; 50]
-    requires { ⌜ Packed w h (now block) × (Placed place × Nearby (now offsets)) ⌝ }
+    requires { ⌜ PackedBlock w h (now block) × (Placed place × Nearby (now offsets)) ⌝ }
     requires { ⌜ Served choice ⌝ }
     ensures { λ r. ⌜ r ≡ costsUpto (placeCost measure w h (blockOf (now (block .entry)) w) (now (samples .entry)) place) (now (offsets .entry)) (slotsUsed choice) ⌝ }
 {
