@@ -39,7 +39,7 @@ use Rattle.plane_view.proofs.Above.{thin, of-view}
 use Rattle.whole.proofs.Scalar.{signed}
 
 -- ---- the signatures: of the thin function, which takes a view, and of plane's, which takes its place
-abbrev of-thin : Ended
+abbrev pub of-thin : Ended
 of-thin = thin (signed w64)
 
 abbrev work : Ended
@@ -69,7 +69,7 @@ of-place f bytes p x y = f p x y
 
 module _ {M : Type 1} (𝓤 : URA M) (f : Place → ℤ → ℤ → ℤ) where
   -- ---- the contracts: both answer f of the place and the two numbers
-  abbrev clauses : Clauses 𝓤 of-thin
+  abbrev pub clauses : Clauses 𝓤 of-thin
   clauses = of-view 𝓤 (signed w64) (of-place f)
 
   abbrev worked : Clauses 𝓤 work
