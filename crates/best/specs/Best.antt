@@ -17,7 +17,7 @@ use Rattle.choosing.specs.declared.Choice.{Choice}
 use Rattle.choosing.specs.declared.Chosen.{Chosen}
 use Rattle.choosing.specs.Choosing.{selected}
 use Rattle.tables.specs.declared.Reference.{Reference}
-use Rattle.tables.specs.Tables.{vectorCost, tableOf, joined}
+use Rattle.tables.specs.Tables.{vectorOffset, vectorCost, tableOf, joined}
 use Rattle.best.specs.declared.Task.{Task}
 use Rattle.best.specs.declared.Best.{Best}
 
@@ -60,13 +60,13 @@ module _ (task : Task) (given : Record) where
   -- candidates stand at the record's position plus the vector
   abbrev pub lumaReference : Reference
   lumaReference =
-      record { place = task .reference .luma; pitch = task .reference .luma .pitch; x = given .pos .first; y = given .pos .second; shift = pos 0 }
+      record { place = task .reference .luma; x = given .pos .first; y = given .pos .second; shift = pos 0 }
 
   abbrev pub lumaCost : List ℕ → List ℕ → ℤ → ℤ → ℕ
-  lumaCost luma referenceLuma = vectorCost (task .measure) widthOf heightOf (sourceBlock luma) referenceLuma lumaReference
+  lumaCost luma referenceLuma = vectorCost (task .measure) widthOf heightOf (sourceBlock luma) referenceLuma (task .reference .luma) lumaReference
 
   unfoldable pub lumaTable : List ℕ → List ℕ → List ℕ
-  lumaTable luma referenceLuma = tableOf choiceOf (lumaCost luma referenceLuma)
+  lumaTable luma referenceLuma = tableOf 0 choiceOf (lumaCost luma referenceLuma)
 
   -- ---- "Chroma, plain blocks only, uses the horizontal shift on both axes and is scaled by 4^shift."
   abbrev pub chromaWidth : ℕ
@@ -75,33 +75,35 @@ module _ (task : Task) (given : Record) where
   abbrev pub chromaHeight : ℕ
   chromaHeight = natAbs (shiftedBy (task .block .y) (task .shift))
 
-  -- "Reference V starts at the offset worked out for U and steps by V's own pitch.": the place is U's, for both
-  abbrev pub chromaReference : ℤ → Reference
-  chromaReference pitch =
-      record { place = task .reference .u; pitch = pitch; x = given .cpos .first; y = given .cpos .second; shift = task .shift }
+  -- "Reference V starts at the offset worked out for U": U's place gives the offsets of both
+  abbrev pub chromaReference : Reference
+  chromaReference = record { place = task .reference .u; x = given .cpos .first; y = given .cpos .second; shift = task .shift }
 
-  -- of one chroma plane: its origin in the source, the source's place, and the reference's own pitch
-  abbrev pub chromaCost : Offset → Place → ℤ → List ℕ → List ℕ → ℤ → ℤ → ℕ
-  chromaCost origin source pitch samples reference =
-      vectorCost (task .measure) chromaWidth chromaHeight (placedFrom samples origin (natAbs (source .pitch))) reference (chromaReference pitch)
+  unfoldable pub chromaOffsets : List ℤ
+  chromaOffsets = tableOf (pos 0) choiceOf (vectorOffset chromaReference)
+
+  -- of one chroma plane: its origin and place in the source, and its own place in the reference, "and steps by V's own pitch"
+  abbrev pub chromaCost : Offset → Place → Place → List ℕ → List ℕ → ℤ → ℤ → ℕ
+  chromaCost origin source own samples reference =
+      vectorCost (task .measure) chromaWidth chromaHeight (placedFrom samples origin (natAbs (source .pitch))) reference own chromaReference
 
   abbrev pub uCost : List ℕ → List ℕ → ℤ → ℤ → ℕ
-  uCost u referenceU = chromaCost (given .u) (task .source .u) (task .reference .u .pitch) u referenceU
+  uCost u referenceU = chromaCost (given .u) (task .source .u) (task .reference .u) u referenceU
 
   abbrev pub vCost : List ℕ → List ℕ → ℤ → ℤ → ℕ
-  vCost v referenceV = chromaCost (given .v) (task .source .v) (task .reference .v .pitch) v referenceV
+  vCost v referenceV = chromaCost (given .v) (task .source .v) (task .reference .v) v referenceV
 
   abbrev pub scaleOf : ℕ
   scaleOf = 4 ^ natAbs (task .shift)
 
-  unfoldable pub planeTable : Offset → Place → ℤ → List ℕ → List ℕ → List ℕ
-  planeTable origin source pitch samples reference = tableOf choiceOf (chromaCost origin source pitch samples reference)
+  unfoldable pub planeTable : Offset → Place → Place → List ℕ → List ℕ → List ℕ
+  planeTable origin source own samples reference = tableOf 0 choiceOf (chromaCost origin source own samples reference)
 
   unfoldable pub chromaTable : List ℕ → List ℕ → List ℕ → List ℕ → List ℕ
   chromaTable u v referenceU referenceV =
       joined scaleOf
-      (planeTable (given .u) (task .source .u) (task .reference .u .pitch) u referenceU)
-      (planeTable (given .v) (task .source .v) (task .reference .v .pitch) v referenceV)
+      (planeTable (given .u) (task .source .u) (task .reference .u) u referenceU)
+      (planeTable (given .v) (task .source .v) (task .reference .v) v referenceV)
 
   -- "plain blocks only": a negative block has no chroma
   unfoldable pub chromasOf : List ℕ → List ℕ → List ℕ → List ℕ → List ℕ

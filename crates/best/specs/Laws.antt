@@ -22,18 +22,22 @@ use Rattle.records.specs.declared.Record.{Record}
 use Rattle.records.specs.Packing.{pairFits}
 use Rattle.window.specs.Windows.{isNegative}
 use Rattle.distance.specs.Distance.{Block, blockOf}
+use Rattle.distance.specs.Laws.{Agree}
 use Rattle.plane.specs.declared.Place.{Place}
 use Rattle.plane.specs.Samples.{placedFrom, nth, gathered}
 use Rattle.plane.specs.Reads.{placed-byte, source-byte, gathered-rows, gathered-block}
 use Rattle.plane.specs.Averages.{Power}
 use Rattle.choosing.specs.declared.Choice.{Choice}
 use Rattle.choosing.specs.Choosing.{selected}
+use Rattle.choosing.specs.Bounds.{Served}
 use Rattle.tables.specs.declared.Reference.{Reference}
-use Rattle.tables.specs.Tables.{vectorCost, tableOf}
+use Rattle.plane_view.specs.View.{placeCost}
+use Rattle.tables.specs.Tables.{vectorOffset, vectorCost, tableOf, slotsUsed, costsUpto}
 use Rattle.tables.specs.Bounds.{Reached, Most}
-use Rattle.tables.specs.Laws.{table-most, vector-most, joined-most, block-same}
+use Rattle.tables.specs.Laws.{table-most, vector-most, joined-most, costs-same, costs-of-offsets}
 use Rattle.best.specs.declared.Task.{Task}
-use Rattle.best.specs.Best.{noTable, widthOf, heightOf, choiceOf, sourceBlock, lumaReference, lumaCost, lumaTable, chromaWidth, chromaHeight, chromaReference, chromaCost, scaleOf, planeTable, chromaTable, chromasOf}
+use Rattle.best.specs.Best.{noTable, widthOf, heightOf, choiceOf, sourceBlock, lumaReference, lumaCost, lumaTable}
+use Rattle.best.specs.Best.{chromaWidth, chromaHeight, chromaReference, chromaCost, scaleOf, planeTable, chromaTable, chromasOf}
 use Rattle.best.specs.Fair.{Fair}
 
 -- ---- "Block 8x8, 16x8 or 16x16": what holds at each of the three holds at every accepted block
@@ -81,7 +85,8 @@ sized m n a b c d e =
 
 -- a block's own sides, and halved
 halved-or-not : (halve : Bool) (w h : ℤ) → isBlock w h ≡ true → Sized (natAbs (cond halve (shrZ w 2) w)) (natAbs (cond halve (shrZ h 2) h))
-halved-or-not true = at-each-block (λ x y. Sized (natAbs (shrZ x 2)) (natAbs (shrZ y 2))) (sized 1 1 tt tt tt tt refl) (sized 2 1 tt tt tt tt refl) (sized 2 2 tt tt tt tt refl)
+halved-or-not true =
+    at-each-block (λ x y. Sized (natAbs (shrZ x 2)) (natAbs (shrZ y 2))) (sized 1 1 tt tt tt tt refl) (sized 2 1 tt tt tt tt refl) (sized 2 2 tt tt tt tt refl)
 halved-or-not false = at-each-block (λ x y. Sized (natAbs x) (natAbs y)) (sized 2 2 tt tt tt tt refl) (sized 4 2 tt tt tt tt refl) (sized 4 4 tt tt tt tt refl)
 
 -- ---- parts that fit i16
@@ -102,9 +107,9 @@ pub natural-read : {n : ℕ} {z : ℤ} → n ≡ natAbs (toZ w32 (ofZ w32 z)) �
 natural-read e p = e ∙ ap natAbs (is-within w32 p tt tt .same)
 
 -- ---- references put together of equal parts are equal
-pub alike-references : {p P : Place} {a b c d A B C D : ℤ} → p ≡ P → a ≡ A → b ≡ B → c ≡ C → d ≡ D →
-    _≡_ {A = Reference} (record { place = p; pitch = a; x = b; y = c; shift = d }) (record { place = P; pitch = A; x = B; y = C; shift = D })
-alike-references e f g h i = cc
+pub alike-references : {p P : Place} {a b c A B C : ℤ} → p ≡ P → a ≡ A → b ≡ B → c ≡ C →
+    _≡_ {A = Reference} (record { place = p; x = a; y = b; shift = c }) (record { place = P; x = A; y = B; shift = C })
+alike-references e f g h = cc
 
 -- ---- what `Fair` leaves
 module _ {task : Task} {given : Record} (fair : Fair task given) where
@@ -133,23 +138,25 @@ module _ {task : Task} {given : Record} (fair : Fair task given) where
   pub height-counts : Counts (task .block .y)
   height-counts = within-more height-in tt tt
 
-  pairs-in : (pairFits (given .pos) ≡ true) × (pairFits (given .cpos) ≡ true) × (pairFits (given .predictor) ≡ true) × (pairFits (given .«window_x») ≡ true) × (pairFits (given .«window_y») ≡ true)
-  pairs-in = five-of (pairFits (given .pos)) (pairFits (given .cpos)) (pairFits (given .predictor)) (pairFits (given .«window_x»)) (pairFits (given .«window_y»)) (fair .pairs)
+  pairs-in :
+      (pairFits (given .pos) ≡ true) × (pairFits (given .cpos) ≡ true) × (pairFits (given .predictor) ≡ true)
+      × (pairFits (given .«window_x») ≡ true) × (pairFits (given .«window_y») ≡ true)
+  pairs-in =
+      five-of (pairFits (given .pos)) (pairFits (given .cpos)) (pairFits (given .predictor))
+      (pairFits (given .«window_x»)) (pairFits (given .«window_y»)) (fair .pairs)
 
   pub luma-reached : Reached (lumaReference task given)
   luma-reached =
       record {
         placed = fair .reference-luma;
-        pitch-in = fair .reference-luma .pitch-in;
         x-in = first-within (given .pos) (pairs-in .0);
         y-in = second-within (given .pos) (pairs-in .0);
       }
 
-  pub chroma-reached : {pitch : ℤ} → Within 0 65536 pitch → Reached (chromaReference task given pitch)
-  chroma-reached p =
+  pub chroma-reached : Reached (chromaReference task given)
+  chroma-reached =
       record {
         placed = fair .reference-u;
-        pitch-in = p;
         x-in = first-within (given .cpos) (pairs-in .1);
         y-in = second-within (given .cpos) (pairs-in .1);
       }
@@ -164,28 +171,36 @@ module _ {task : Task} {given : Record} (fair : Fair task given) where
       by (negsuc n) p = absurd (omega arith)
 
   -- ---- how large costs are, between bytes
-  pub luma-cost-most : (luma reference : List ℕ) → ((n : ℕ) → getD luma n 0 < 256) → ((n : ℕ) → getD reference n 0 < 256) → (x y : ℤ) → lumaCost task given luma reference x y ≤ 130560
+  pub luma-cost-most : (luma reference : List ℕ) → ((n : ℕ) → getD luma n 0 < 256) → ((n : ℕ) → getD reference n 0 < 256) →
+      (x y : ℤ) → lumaCost task given luma reference x y ≤ 130560
   luma-cost-most luma reference p q =
-      vector-most (task .measure) (widthOf task given) (heightOf task given) (sourceBlock task given luma) reference (lumaReference task given) (searched-sized .wide) (searched-sized .high)
-      (λ y x. source-byte luma p (natAbs (task .source .luma .pitch)) (given .full) (given .overlay) (natAbs (task .block .x)) (natAbs (task .block .y)) (y * widthOf task given + x)) q
+      vector-most (task .measure) (widthOf task given) (heightOf task given) (sourceBlock task given luma) reference
+      (task .reference .luma) (lumaReference task given) (searched-sized .wide) (searched-sized .high)
+      (λ y x. source-byte luma p (natAbs (task .source .luma .pitch)) (given .full) (given .overlay)
+      (natAbs (task .block .x)) (natAbs (task .block .y)) (y * widthOf task given + x)) q
 
-  pub luma-most : (luma reference : List ℕ) → ((n : ℕ) → getD luma n 0 < 256) → ((n : ℕ) → getD reference n 0 < 256) → Most 130560 (lumaTable task given luma reference)
+  pub luma-most : (luma reference : List ℕ) → ((n : ℕ) → getD luma n 0 < 256) → ((n : ℕ) → getD reference n 0 < 256) →
+      Most 130560 (lumaTable task given luma reference)
   unfolding lumaTable
   luma-most luma reference p q = table-most 130560 (choiceOf task given) (lumaCost task given luma reference) (luma-cost-most luma reference p q)
 
-  pub plane-most : (origin : Offset) (source : Place) (pitch : ℤ) (samples reference : List ℕ) → ((n : ℕ) → getD samples n 0 < 256) → ((n : ℕ) → getD reference n 0 < 256) →
-      Most 130560 (planeTable task given origin source pitch samples reference)
+  pub plane-most : (origin : Offset) (source own : Place) (samples reference : List ℕ) →
+      ((n : ℕ) → getD samples n 0 < 256) → ((n : ℕ) → getD reference n 0 < 256) →
+      Most 130560 (planeTable task given origin source own samples reference)
   unfolding planeTable
-  plane-most origin source pitch samples reference p q =
-      table-most 130560 (choiceOf task given) (chromaCost task given origin source pitch samples reference)
-      (vector-most (task .measure) (chromaWidth task given) (chromaHeight task given) (placedFrom samples origin (natAbs (source .pitch))) reference (chromaReference task given pitch) (chroma-sized .wide) (chroma-sized .high)
+  plane-most origin source own samples reference p q =
+      table-most 130560 (choiceOf task given) (chromaCost task given origin source own samples reference)
+      (vector-most (task .measure) (chromaWidth task given) (chromaHeight task given) (placedFrom samples origin (natAbs (source .pitch)))
+      reference own (chromaReference task given) (chroma-sized .wide) (chroma-sized .high)
       (placed-byte samples p origin (natAbs (source .pitch))) q)
 
-  pub chroma-most : (u v referenceU referenceV : List ℕ) → ((n : ℕ) → getD u n 0 < 256) → ((n : ℕ) → getD v n 0 < 256) → ((n : ℕ) → getD referenceU n 0 < 256) → ((n : ℕ) → getD referenceV n 0 < 256) →
+  pub chroma-most : (u v referenceU referenceV : List ℕ) → ((n : ℕ) → getD u n 0 < 256) → ((n : ℕ) → getD v n 0 < 256) →
+      ((n : ℕ) → getD referenceU n 0 < 256) → ((n : ℕ) → getD referenceV n 0 < 256) →
       Most 1044480 (chromaTable task given u v referenceU referenceV)
   unfolding chromaTable
   chroma-most u v referenceU referenceV p q r s =
-      joined-most (plane-most (given .u) (task .source .u) (task .reference .u .pitch) u referenceU p r) (plane-most (given .v) (task .source .v) (task .reference .v .pitch) v referenceV q s) scale-most
+      joined-most (plane-most (given .u) (task .source .u) (task .reference .u) u referenceU p r)
+      (plane-most (given .v) (task .source .v) (task .reference .v) v referenceV q s) scale-most
 
 -- ---- which chroma table counts
 first-taken : (t : Bool) (a b : List ℕ) → t ≡ true → a ≡ cond t a b
@@ -203,16 +218,27 @@ module _ (task : Task) (given : Record) (u v referenceU referenceV : List ℕ) w
   unfolding chromasOf
   some-chroma e = second-taken (isNegative given) noTable (chromaTable task given u v referenceU referenceV) e
 
--- ---- a table of gathered samples is that of the block
-module _ (k : Choice) (measure : Bool) (w h : ℕ) (samples : List ℕ) (r : Reference) {out : List ℕ} (wide : w ≤ 16) (high : h ≤ 16) where
-  pub table-of-samples : (f : ℕ → ℕ) → out ≡ gathered (h * w) f → tableOf k (vectorCost measure w h (blockOf out w) samples r) ≡ tableOf k (vectorCost measure w h (λ y x. f (y * w + x)) samples r)
-  table-of-samples f e = rw e (block-same k measure w h _ _ samples r (gathered-rows w h f wide high))
+-- ---- costs of gathered samples, from the offsets of a reference on, are the table of the block that they are
+module _ {k : Choice} (served : Served k) (measure : Bool) (w h : ℕ) (samples : List ℕ) (place : Place) (r : Reference) where
+  abbrev costsOf : Block → List ℕ
+  costsOf block = costsUpto (placeCost measure w h block samples place) (tableOf (pos 0) k (vectorOffset r)) (slotsUsed k)
 
-  pub table-of-block : (block : Block) → out ≡ gathered (h * w) (nth w block) → tableOf k (vectorCost measure w h (blockOf out w) samples r) ≡ tableOf k (vectorCost measure w h block samples r)
-  table-of-block block e = rw e (block-same k measure w h _ _ samples r (gathered-block w h block wide high))
+  costs-of : (a b : Block) → Agree w h a b → costsOf a ≡ tableOf 0 k (vectorCost measure w h b samples place r)
+  costs-of a b e =
+      costs-same measure w h a b samples place (tableOf (pos 0) k (vectorOffset r)) (slotsUsed k) e
+      ∙ costs-of-offsets served (placeCost measure w h b samples place) (vectorOffset r)
+
+  pub table-of-samples : {out : List ℕ} (f : ℕ → ℕ) → w ≤ 16 → h ≤ 16 → out ≡ gathered (h * w) f →
+      costsOf (blockOf out w) ≡ tableOf 0 k (vectorCost measure w h (λ y x. f (y * w + x)) samples place r)
+  table-of-samples f wide high e = rw e (costs-of _ _ (gathered-rows w h f wide high))
+
+  pub table-of-block : {out : List ℕ} (block : Block) → w ≤ 16 → h ≤ 16 → out ≡ gathered (h * w) (nth w block) →
+      costsOf (blockOf out w) ≡ tableOf 0 k (vectorCost measure w h block samples place r)
+  table-of-block block wide high e = rw e (costs-of _ _ (gathered-block w h block wide high))
 
 -- ---- a block that isn't bad looks at no table
-pub not-looked-at : (k : Choice) (bad negative : Bool) (sad : ℤ) (l c l′ c′ : List ℕ) → bad ≡ false → selected k bad negative sad l c ≡ selected k bad negative sad l′ c′
+pub not-looked-at : (k : Choice) (bad negative : Bool) (sad : ℤ) (l c l′ c′ : List ℕ) →
+    bad ≡ false → selected k bad negative sad l c ≡ selected k bad negative sad l′ c′
 unfolding selected
 not-looked-at k true negative sad l c l′ c′ e = absurd (holds (sym e))
 not-looked-at k false negative sad l c l′ c′ e = refl

@@ -22,11 +22,13 @@ use Rattle.plane.specs.Samples.{placedFrom}
 use Rattle.choosing.specs.declared.Choice.{Choice}
 use Rattle.choosing.specs.Choosing.{slotOf, tripledOf, selected}
 use Rattle.choosing.specs.Entries.{heldAt, Own, sad-of-the-vector}
-use Rattle.tables.specs.Tables.{referenceBlock, tableOf}
+use Rattle.plane_view.specs.View.{placeBlock}
+use Rattle.tables.specs.Tables.{vectorOffset, tableOf}
 use Rattle.tables.specs.Laws.{inside, slot-0, slot-candidate, slot-joined}
 use Rattle.best.specs.declared.Task.{Task}
 use Rattle.best.specs.declared.Best.{Best}
-use Rattle.best.specs.Best.{noTable, widthOf, heightOf, choiceOf, sourceBlock, lumaReference, lumaCost, lumaTable, chromaWidth, chromaHeight, chromaReference, uCost, vCost, scaleOf, planeTable, chromaTable, chromasOf, bestOf}
+use Rattle.best.specs.Best.{noTable, widthOf, heightOf, choiceOf, sourceBlock, lumaReference, lumaCost, lumaTable}
+use Rattle.best.specs.Best.{chromaWidth, chromaHeight, chromaReference, uCost, vCost, scaleOf, planeTable, chromaTable, chromasOf, bestOf}
 use Rattle.best.specs.Fair.{Fair}
 use Rattle.best.specs.Laws.{Sized, searched-sized, chroma-sized, luma-cost-most}
 
@@ -54,7 +56,8 @@ scaled-0 {a} {b} n e =
     let more = mul-le-mul {n₁ = a + b} {m₁ = 1} {n₂ = a + b} {m₂ = 4 ^ n} (omega arith) (one-le-pow n 4 (omega arith)) in
     (omega arith, omega arith)
 
-none-of : {l a b : ℕ} (negative : Bool) (scale : ℕ) → l ≡ 0 → (negative ≡ false → a ≡ 0) → (negative ≡ false → b ≡ 0) → l + cond negative 0 ((a + b) * scale) ≡ 0
+none-of : {l a b : ℕ} (negative : Bool) (scale : ℕ) →
+    l ≡ 0 → (negative ≡ false → a ≡ 0) → (negative ≡ false → b ≡ 0) → l + cond negative 0 ((a + b) * scale) ≡ 0
 none-of true scale e f g = omega arith
 none-of {l} {a} {b} false scale e f g = rw (e, f refl, g refl) (omega arith)
 
@@ -81,13 +84,15 @@ module _ (task : Task) (given : Record) (luma u v referenceLuma referenceU refer
 
   -- ---- all samples compared at a vector agree
   pub record AgreeAt (x y : ℤ) : Type 0 where
-    pub in-luma : Agree (widthOf task given) (heightOf task given) (sourceBlock task given luma) (referenceBlock referenceLuma (lumaReference task given) x y)
+    pub in-luma :
+        Agree (widthOf task given) (heightOf task given)
+        (sourceBlock task given luma) (placeBlock referenceLuma (task .reference .luma) (vectorOffset (lumaReference task given) x y))
     pub in-u : isNegative given ≡ false →
         Agree (chromaWidth task given) (chromaHeight task given)
-        (placedFrom u (given .u) (natAbs (task .source .u .pitch))) (referenceBlock referenceU (chromaReference task given (task .reference .u .pitch)) x y)
+        (placedFrom u (given .u) (natAbs (task .source .u .pitch))) (placeBlock referenceU (task .reference .u) (vectorOffset (chromaReference task given) x y))
     pub in-v : isNegative given ≡ false →
         Agree (chromaWidth task given) (chromaHeight task given)
-        (placedFrom v (given .v) (natAbs (task .source .v .pitch))) (referenceBlock referenceV (chromaReference task given (task .reference .v .pitch)) x y)
+        (placedFrom v (given .v) (natAbs (task .source .v .pitch))) (placeBlock referenceV (task .reference .v) (vectorOffset (chromaReference task given) x y))
 
   -- ---- what the tables hold for a vector
   abbrev k : Choice
@@ -101,14 +106,16 @@ module _ (task : Task) (given : Record) (luma u v referenceLuma referenceU refer
 
   -- a slot is a vector's where every table has the vector's cost there
   abbrev Of : ℤ → ℤ → ℕ → Type 0
-  Of x y slot = (cost : ℤ → ℤ → ℕ) → getD (tableOf k cost) slot 0 ≡ cost x y
+  Of x y slot = (cost : ℤ → ℤ → ℕ) → getD (tableOf 0 k cost) slot 0 ≡ cost x y
 
   module _ {x y : ℤ} {slot : ℕ} (l : slot < 50) (of : Of x y slot) where
     luma-held : getD lumas slot 0 ≡ lumaCost task given luma referenceLuma x y
     unfolding lumaTable
     luma-held = of (lumaCost task given luma referenceLuma)
 
-    chroma-held : (negative : Bool) → getD (cond negative noTable (chromaTable task given u v referenceU referenceV)) slot 0 ≡ cond negative 0 ((uCost task given u referenceU x y + vCost task given v referenceV x y) * scaleOf task given)
+    chroma-held : (negative : Bool) →
+        getD (cond negative noTable (chromaTable task given u v referenceU referenceV)) slot 0
+        ≡ cond negative 0 ((uCost task given u referenceU x y + vCost task given v referenceV x y) * scaleOf task given)
     unfolding chromaTable planeTable
     chroma-held true = getD-replicate {A = ℕ} 50 slot 0 0 l
     chroma-held false =
@@ -127,11 +134,11 @@ module _ (task : Task) (given : Record) (luma u v referenceLuma referenceU refer
     unfolding slotOf
     own-cost =
         ⊎-elim
-        (λ q. rw (q .0, q .1) (q .2 ∙ held (omega arith) (slot-0 k)))
+        (λ q. rw (q .0, q .1) (q .2 ∙ held (omega arith) (slot-0 0 k)))
         (λ q.
         let served = fair .served bad in
         rw (q .x-is, q .y-is)
-        (q .sad-is ∙ held (inside served (q .in-rows) (q .in-columns) .slot) (λ cost. slot-candidate k cost served (q .in-rows) (q .in-columns))))
+        (q .sad-is ∙ held (inside served (q .in-rows) (q .in-columns) .slot) (λ cost. slot-candidate 0 k cost served (q .in-rows) (q .in-columns))))
 
     -- ---- the SAD answered is the cost of the vector answered, tripled where the block is negative
     abbrev pub best : Best

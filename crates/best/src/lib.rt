@@ -15,7 +15,8 @@ ghost use Rattle.limits.specs.Limits.{shiftedBy};
 ghost use Rattle.window.specs.Windows.{isBad};
 ghost use Rattle.plane.specs.Places.{Placed};
 ghost use Rattle.choosing.specs.Bounds.{Small};
-ghost use Rattle.best.specs.Best.{searchedOf, widthOf, heightOf, choiceOf, lumaReference, lumaTable, chromaReference, planeTable, chromaTable, averageAt, answered, bestOf};
+ghost use Rattle.tables.specs.Bounds.{Nearby};
+ghost use Rattle.best.specs.Best.{searchedOf, widthOf, heightOf, choiceOf, lumaReference, lumaTable, chromaReference, chromaOffsets, planeTable, chromaTable, averageAt, answered, bestOf};
 ghost use Rattle.best.specs.Fair.{Fair};
 
 // What all records share. The shift is the horizontal one.
@@ -114,7 +115,6 @@ fn luma_reference(task: Task, given: Record) -> Reference
     let pos = given.pos;
     Reference {
         place: place,
-        pitch: place.pitch,
         x: pos.first,
         y: pos.second,
         shift: 0,
@@ -147,38 +147,52 @@ fn luma_table(task: Task, given: Record, luma: &[u8], reference_luma: &[u8]) -> 
     );
     let reference = luma_reference(task, given);
     let choice = choice_of(task, given);
-    tables::table(measure, w, h, &block, reference_luma, reference, choice)
+    let offsets = tables::offsets(reference_luma, reference, choice);
+    let own = reference.place;
+    tables::costs(measure, w, h, &block, reference_luma, own, &offsets, choice)
 }
 
 // ---- chroma
-// U's place serves both planes; the pitch is the plane's own.
-fn chroma_reference(task: Task, given: Record, pitch: i32) -> Reference
-    ensures { λ r. ⌜ r ≡ chromaReference task given pitch ⌝ }
+fn chroma_reference(task: Task, given: Record) -> Reference
+    ensures { λ r. ⌜ r ≡ chromaReference task given ⌝ }
 {
     let planes = task.reference;
     let place = planes.u;
     let cpos = given.cpos;
     Reference {
         place: place,
-        pitch: pitch,
         x: cpos.first,
         y: cpos.second,
         shift: task.shift,
     }
 }
 
+// Worked out once, by the view of U's bytes with U's place. V is read at the same numbers.
+fn chroma_offsets(task: Task, given: Record, reference_u: &[u8]) -> [i64; 50]
+    requires { ⌜ Fair task given × (isBad given ≡ true) ⌝ }
+    ensures { λ r. ⌜ r ≡ chromaOffsets task given ⌝ }
+    ensures { λ r. ⌜ Nearby r ⌝ }
+{
+    let reference = chroma_reference(task, given);
+    let choice = choice_of(task, given);
+    tables::offsets(reference_u, reference, choice)
+}
+
+// One chroma plane's table: its origin and place in the source, and its own place in the reference.
 fn plane_table(
     task: Task,
     given: Record,
     origin: Offset,
     source: Place,
-    pitch: i32,
+    own: Place,
     samples: &[u8],
     reference: &[u8],
+    offsets: &[i64; 50],
 ) -> [u32; 50]
     requires { ⌜ Fair task given × (isBad given ≡ true) ⌝ }
-    requires { ⌜ Placed source × Within 0 65536 pitch ⌝ }
-    ensures { λ r. ⌜ r ≡ planeTable task given origin source pitch (now (samples .entry)) (now (reference .entry)) ⌝ }
+    requires { ⌜ Placed source × Placed own ⌝ }
+    requires { ⌜ (now offsets ≡ chromaOffsets task given) × Nearby (now offsets) ⌝ }
+    ensures { λ r. ⌜ r ≡ planeTable task given origin source own (now (samples .entry)) (now (reference .entry)) ⌝ }
 {
     let measure = task.measure;
     let shift = task.shift;
@@ -189,9 +203,8 @@ fn plane_table(
     let h = chroma_side(full_h, shift);
     let step = source.pitch;
     let block = plane::gather_from(samples, origin, natural(step), w, h);
-    let against = chroma_reference(task, given, pitch);
     let choice = choice_of(task, given);
-    tables::table(measure, w, h, &block, reference, against, choice)
+    tables::costs(measure, w, h, &block, reference, own, offsets, choice)
 }
 
 fn chroma_table(
@@ -211,13 +224,30 @@ fn chroma_table(
     let to = task.reference;
     let to_u = to.u;
     let to_v = to.v;
-    let pitch_u = to_u.pitch;
-    let pitch_v = to_v.pitch;
     let shift = task.shift;
     let origin_u = given.u;
     let origin_v = given.v;
-    let us = plane_table(task, given, origin_u, from_u, pitch_u, u, reference_u);
-    let vs = plane_table(task, given, origin_v, from_v, pitch_v, v, reference_v);
+    let offsets = chroma_offsets(task, given, reference_u);
+    let us = plane_table(
+        task,
+        given,
+        origin_u,
+        from_u,
+        to_u,
+        u,
+        reference_u,
+        &offsets,
+    );
+    let vs = plane_table(
+        task,
+        given,
+        origin_v,
+        from_v,
+        to_v,
+        v,
+        reference_v,
+        &offsets,
+    );
     tables::join(&us, &vs, scale_of(shift))
 }
 

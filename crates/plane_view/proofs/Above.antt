@@ -1,5 +1,5 @@
 -- An answer about a plane's parts by way of a view, walked by hand and once for any plain answer (whole's Scalar) and any f that says what is answered: a view of the parts is made, and handed on with the two numbers.
--- `offset_of` and `sample_of` are two uses of `meets`, the last line. All that is known of either call is its contract. Assumes nothing.
+-- `subpel_of`, `pel1_of` and `sample_of` are three uses of `meets`, the last line. All that is known of either call is its contract. Assumes nothing.
 use mathlib.Core.Path.{_≡_, refl, ap, _∙_}
 use Prim.Native.Nat.{ℕ}
 use mathlib.Core.List.{List, [], _∷_}

@@ -1,3 +1,4 @@
 pub mod Parts
 pub mod Making
 pub mod Above
+pub mod Offsets

@@ -1,16 +1,39 @@
--- 01, "Port order and what changes shape": "A plane is a view: its bytes, base, pitch, sides and pel in one struct that refers to them; few functions take it." A definition, and an
--- example by computation.
+-- 01, "Port order and what changes shape": "A plane is a view: its bytes, base, pitch, sides and pel in one struct that refers to them; few functions
+-- take it." What is told of a plane's bytes and place, what a cost asks of its callers, and an example by computation.
 use mathlib.Core.Path.{_≡_, refl}
+use mathlib.Core.Bool.{Bool}
 use mathlib.Core.List.{List, [], _∷_}
-use Prim.Native.Nat.{ℕ}
-use lib.IntN.{ℤ, pos, negsuc}
+use Prim.Native.Nat.{ℕ, _*_, _≤_, _<_}
+use lib.IntN.{ℤ, pos, negsuc, natAbs}
+use lib.ListN.{length}
+use Rattle.distance.specs.Distance.{Block, costOf}
 use Rattle.plane.specs.declared.Place.{Place}
-use Rattle.plane.specs.Places.{subpelOf}
-use Rattle.plane.specs.Samples.{readAt, weight, sampleAt}
+use Rattle.plane.specs.Places.{subpelOf, Placed, Near}
+use Rattle.plane.specs.Samples.{readAt, weight, sampleAt, placedAt}
 
 -- the sample of a plane at a place: that at the place's offset, "A read outside the data counts 0"
 abbrev pub placeSample : List ℕ → Place → ℤ → ℤ → ℕ
 placeSample bytes place x y = sampleAt bytes (subpelOf place x y)
+
+-- the samples of a plane from an offset on, in rows that step by its own pitch, and the cost of a block against them
+abbrev pub placeBlock : List ℕ → Place → ℤ → Block
+placeBlock bytes place at = placedAt bytes at (natAbs (place .pitch))
+
+abbrev pub placeCost : Bool → ℕ → ℕ → Block → List ℕ → Place → ℤ → ℕ
+placeCost measure w h block bytes place at = costOf measure w h block (placeBlock bytes place at)
+
+-- a packed block of at most 16 x 16 samples
+pub record PackedBlock (w h : ℕ) (block : List ℕ) : Type 0 where
+  pub wide : w ≤ 16
+  pub some : 0 < h
+  pub high : h ≤ 16
+  pub held : h * w ≤ length block
+
+-- what a cost asks: a plane that can be read, a packed block, and an offset whose steps stay in 64 bits
+pub record Costed (place : Place) (w h : ℕ) (block : List ℕ) (at : ℤ) : Type 0 where
+  pub placed : Placed place
+  pub packed : PackedBlock w h block
+  pub near : Near at
 
 -- of two bytes in a row from base 0 on, (1,0) is the second, and (-1,0) is no byte
 abbrev row : Place

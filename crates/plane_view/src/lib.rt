@@ -1,11 +1,12 @@
 // A plane as one thing: its bytes, and where they stand (base, pitch, sides and pel), in a struct that
 // refers to the bytes. Few functions take one, and each leaves its work to a function of plain
-// parameters. Who has a plane's parts calls the last three, and needs no view of his own.
+// parameters. Who has a plane's parts calls the last five, and needs no view of his own.
 use plane::Place;
 ghost use mathlib.Core.Path.{_≡_};
 ghost use lib.ListN.{length};
-ghost use Rattle.plane.specs.Places.{keepsLength, subpelOf, Placed};
-ghost use Rattle.plane_view.specs.View.{placeSample};
+ghost use Rattle.distance.specs.Distance.{blockOf};
+ghost use Rattle.plane.specs.Places.{keepsLength, pel1Of, subpelOf, Placed};
+ghost use Rattle.plane_view.specs.View.{placeSample, placeCost, Costed};
 
 pub struct PlaneView<'a> {
     pub bytes: &'a [u8],
@@ -26,6 +27,23 @@ fn sample_at(bytes: &[u8], place: Place, x: i32, y: i32) -> u8
     plane::sample(bytes, plane::subpel(place, x, y))
 }
 
+// The rows compared step by the plane's own pitch.
+fn cost_on(
+    bytes: &[u8],
+    place: Place,
+    measure: bool,
+    w: usize,
+    h: usize,
+    block: &[u8],
+    at: i64,
+) -> u32
+    requires { ⌜ Costed place w h (now block) at ⌝ }
+    ensures { λ r. ⌜ r ≡ placeCost measure w h (blockOf (now (block .entry)) w) (now (bytes .entry)) place at ⌝ }
+{
+    let pitch = place.pitch;
+    plane::cost_at(measure, w, h, block, bytes, at, pitch as usize)
+}
+
 // ---- the view
 pub fn view_of<'a>(bytes: &'a [u8], place: Place) -> PlaneView<'a>
     ensures { λ r. ⌜ (r .bytes ≡ bytes .entry) × (r .place ≡ place) ⌝ }
@@ -37,6 +55,13 @@ pub fn keeps_length<'a>(view: PlaneView<'a>) -> bool
     ensures { λ r. ⌜ r ≡ keepsLength (view .entry .place) (length (now (view .entry .bytes))) ⌝ }
 {
     length_holds(view.bytes, view.place)
+}
+
+pub fn pel1<'a>(view: PlaneView<'a>, x: i32, y: i32) -> i64
+    requires { ⌜ Placed (view .place) ⌝ }
+    ensures { λ r. ⌜ r ≡ pel1Of (view .entry .place) x y ⌝ }
+{
+    plane::pel1(view.place, x, y)
 }
 
 pub fn subpel<'a>(view: PlaneView<'a>, x: i32, y: i32) -> i64
@@ -53,6 +78,20 @@ pub fn sample<'a>(view: PlaneView<'a>, x: i32, y: i32) -> u8
     sample_at(view.bytes, view.place, x, y)
 }
 
+pub fn cost<'a, 'b>(
+    view: PlaneView<'a>,
+    measure: bool,
+    w: usize,
+    h: usize,
+    block: &'b [u8],
+    at: i64,
+) -> u32
+    requires { ⌜ Costed (view .place) w h (now block) at ⌝ }
+    ensures { λ r. ⌜ r ≡ placeCost measure w h (blockOf (now (block .entry)) w) (now (view .entry .bytes)) (view .entry .place) at ⌝ }
+{
+    cost_on(view.bytes, view.place, measure, w, h, block, at)
+}
+
 // ---- the same of a plane's parts, by way of a view
 pub fn length_kept(bytes: &[u8], place: Place) -> bool
     ensures { λ r. ⌜ r ≡ keepsLength place (length (now (bytes .entry))) ⌝ }
@@ -60,7 +99,14 @@ pub fn length_kept(bytes: &[u8], place: Place) -> bool
     keeps_length(view_of(bytes, place))
 }
 
-pub fn offset_of(bytes: &[u8], place: Place, x: i32, y: i32) -> i64
+pub fn pel1_of(bytes: &[u8], place: Place, x: i32, y: i32) -> i64
+    requires { ⌜ Placed place ⌝ }
+    ensures { λ r. ⌜ r ≡ pel1Of place x y ⌝ }
+{
+    pel1(view_of(bytes, place), x, y)
+}
+
+pub fn subpel_of(bytes: &[u8], place: Place, x: i32, y: i32) -> i64
     requires { ⌜ Placed place ⌝ }
     ensures { λ r. ⌜ r ≡ subpelOf place x y ⌝ }
 {
@@ -72,4 +118,19 @@ pub fn sample_of(bytes: &[u8], place: Place, x: i32, y: i32) -> u8
     ensures { λ r. ⌜ r ≡ placeSample (now (bytes .entry)) place x y ⌝ }
 {
     sample(view_of(bytes, place), x, y)
+}
+
+pub fn cost_of(
+    bytes: &[u8],
+    place: Place,
+    measure: bool,
+    w: usize,
+    h: usize,
+    block: &[u8],
+    at: i64,
+) -> u32
+    requires { ⌜ Costed place w h (now block) at ⌝ }
+    ensures { λ r. ⌜ r ≡ placeCost measure w h (blockOf (now (block .entry)) w) (now (bytes .entry)) place at ⌝ }
+{
+    cost(view_of(bytes, place), measure, w, h, block, at)
 }

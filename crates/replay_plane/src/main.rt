@@ -26,7 +26,8 @@ fn offsets_agree(place: Place, x: i32, y: i32, at_pel1: i64, at_subpel: i64) -> 
     requires { ⌜ Placed place ⌝ }
 {
     let none = [0u8; 1];
-    (at_pel1 == plane::pel1(place, x, y)) & (at_subpel == plane_view::offset_of(&none, place, x, y))
+    (at_pel1 == plane_view::pel1_of(&none, place, x, y))
+        & (at_subpel == plane_view::subpel_of(&none, place, x, y))
 }
 
 fn side(number: i64) -> usize
@@ -76,7 +77,7 @@ fn block_at(bytes: &[u8], place: Place, x: i32, y: i32, w: usize, h: usize) -> [
     requires { ⌜ (w ≤ 16) × (h ≤ 16) ⌝ }
 {
     let pitch = place.pitch;
-    let at = plane_view::offset_of(bytes, place, x, y);
+    let at = plane_view::subpel_of(bytes, place, x, y);
     plane::gather(bytes, at, pitch as usize, w, h)
 }
 

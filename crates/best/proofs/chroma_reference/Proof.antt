@@ -11,11 +11,10 @@ returns : tie.Need-returns
 returns c =
     let at = c .before .struct-told .given in
     let asked = c .struct-told2 .given in
-    let pitch = c .before .before .before .before .before .fits .pitch in
     let x : SFits w32 (c .before .before .before .before .before .args .given .cpos .first) = record { sfits = at .0 .1 } in
     let y : SFits w32 (c .before .before .before .before .before .args .given .cpos .second) = record { sfits = at .1 .0 .1 } in
     let shift : SFits w32 (c .before .before .before .before .before .args .task .shift) = record { sfits = asked .1 .1 .0 .1 } in
-    alike-references refl (toZ-ofZ pitch) (toZ-ofZ x) (toZ-ofZ y) (toZ-ofZ shift)
+    alike-references refl (toZ-ofZ x) (toZ-ofZ y) (toZ-ofZ shift)
 
 pub chroma-reference-spec : {M : Type 1} → statement M
 chroma-reference-spec = tie.close (tie.spec returns)

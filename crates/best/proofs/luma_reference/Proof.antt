@@ -9,12 +9,10 @@ use Rattle.best.proofs.luma_reference.Tie as tie
 
 returns : tie.Need-returns
 returns c =
-    let place = c .before .struct-told .given in
-    let at = c .struct-told2 .given in
-    let pitch : SFits w32 (c .before .before .before .before .before .args .task .reference .luma .pitch) = record { sfits = place .1 .0 .1 } in
-    let x : SFits w32 (c .before .before .before .before .before .args .given .pos .first) = record { sfits = at .0 .1 } in
-    let y : SFits w32 (c .before .before .before .before .before .args .given .pos .second) = record { sfits = at .1 .0 .1 } in
-    alike-references refl (toZ-ofZ pitch) (toZ-ofZ x) (toZ-ofZ y) refl
+    let at = c .struct-told .given in
+    let x : SFits w32 (c .before .before .before .before .args .given .pos .first) = record { sfits = at .0 .1 } in
+    let y : SFits w32 (c .before .before .before .before .args .given .pos .second) = record { sfits = at .1 .0 .1 } in
+    alike-references refl (toZ-ofZ x) (toZ-ofZ y) refl
 
 pub luma-reference-spec : {M : Type 1} → statement M
 luma-reference-spec = tie.close (tie.spec returns)

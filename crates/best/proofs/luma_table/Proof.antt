@@ -7,7 +7,7 @@ use lib.IntN.{natAbs}
 use Rattle.plane.specs.Samples.{sourceAt, gathered}
 use Rattle.plane.specs.Reads.{area-small}
 use Rattle.tables.specs.Laws.{natural-most}
-use Rattle.best.specs.Best.{widthOf, heightOf, choiceOf, lumaReference, lumaTable}
+use Rattle.best.specs.Best.{widthOf, heightOf, lumaReference, lumaTable}
 use Rattle.best.specs.Laws.{counts-read, natural-read, width-counts, height-counts, full-sized, searched-sized, luma-reached, table-of-samples}
 use Rattle.best.proofs.luma_table.Statement.{statement}
 use Rattle.best.proofs.luma_table.Tie as tie
@@ -55,30 +55,36 @@ source-is : (c : tie.After-source-block) →
 source-is c =
     rw (pitch-is (c .before .before .before), full-w (c .before .before), full-h (c .before), w-is (c .before .before .before .before .before .before .before .before .before .before .before), h-is (c .before .before .before .before .before .before .before .before .before .before)) at (c .source-block .ensures)
 
-table-requires : tie.Need-table-requires
-table-requires c κs =
-    let fair = c .before .before .before .before .before .before .before .before .before .before .before .before .before .before .before .before .before .pre .0 in
+offsets-requires : tie.Need-offsets-requires
+offsets-requires c κs =
+    let fair = c .before .before .before .before .before .before .before .before .before .before .before .before .before .before .before .before .pre .0 in
+    (rw (c .before .luma-reference .ensures) (luma-reached fair), rw (c .choice-of .ensures) (fair .served (c .before .before .before .before .before .before .before .before .before .before .before .before .before .before .before .before .pre .1)))
+
+costs-requires : tie.Need-costs-requires
+costs-requires c κs =
+    let fair = c .before .before .before .before .before .before .before .before .before .before .before .before .before .before .before .before .before .before .before .before .pre .0 in
     let size = searched-sized fair in
-    let small = area (c .before .before .before .before .before .before .before .before .before .before .before .before .before) in (
+    let small = area (c .before .before .before .before .before .before .before .before .before .before .before .before .before .before .before .before) in (
       (
         record {
-          wide = rw (w-is (c .before .before .before .before .before .before .before .before .before .before .before .before .before .before)) (size .wide);
-          some = rw (h-is (c .before .before .before .before .before .before .before .before .before .before .before .before .before)) (omega (arith, size .tall));
-          high = rw (h-is (c .before .before .before .before .before .before .before .before .before .before .before .before .before)) (size .high);
-          held = omega (arith, c .before .before .before .source-block .ok);
+          wide = rw (w-is (c .before .before .before .before .before .before .before .before .before .before .before .before .before .before .before .before .before)) (size .wide);
+          some = rw (h-is (c .before .before .before .before .before .before .before .before .before .before .before .before .before .before .before .before)) (omega (arith, size .tall));
+          high = rw (h-is (c .before .before .before .before .before .before .before .before .before .before .before .before .before .before .before .before)) (size .high);
+          held = omega (arith, c .before .before .before .before .before .before .source-block .ok);
         },
-        rw (c .before .before .luma-reference .ensures) (luma-reached fair),
+        (rw (c .before .before .before .before .before .luma-reference .ensures) (fair .reference-luma), c .before .before .before .offsets .ensures .1),
       ),
-      rw (c .before .choice-of .ensures) (fair .served (c .before .before .before .before .before .before .before .before .before .before .before .before .before .before .before .before .before .pre .1)),
+      rw (c .before .before .before .before .choice-of .ensures) (fair .served (c .before .before .before .before .before .before .before .before .before .before .before .before .before .before .before .before .before .before .before .before .pre .1)),
     )
 
 returns : tie.Need-returns
 unfolding lumaTable
 returns c =
-    let s = c .before .before .before .before .before .before .before .before .before .before .before .before .before .before .before .before .before .before .args in
-    let size = searched-sized (c .before .before .before .before .before .before .before .before .before .before .before .before .before .before .before .before .before .before .pre .0) in
-    rw (w-is (c .before .before .before .before .before .before .before .before .before .before .before .before .before .before .before), h-is (c .before .before .before .before .before .before .before .before .before .before .before .before .before .before), c .before .before .before .luma-reference .ensures, c .before .before .choice-of .ensures) at (c .table .ensures)
-    ∙ table-of-samples (choiceOf (s .task) (s .given)) (s .task .measure) _ _ (s .reference-luma .now) (lumaReference (s .task) (s .given)) (size .wide) (size .high) _ (source-is (c .before .before .before .before))
+    let s = c .before .before .before .before .before .before .before .before .before .before .before .before .before .before .before .before .before .before .before .before .before .args in
+    let fair = c .before .before .before .before .before .before .before .before .before .before .before .before .before .before .before .before .before .before .before .before .before .pre .0 in
+    let size = searched-sized fair in
+    rw (w-is (c .before .before .before .before .before .before .before .before .before .before .before .before .before .before .before .before .before .before), h-is (c .before .before .before .before .before .before .before .before .before .before .before .before .before .before .before .before .before), c .before .before .before .before .offsets .ensures .0, c .before .before .before .before .before .before .luma-reference .ensures, c .before .before .before .before .before .choice-of .ensures) at (c .costs .ensures)
+    ∙ table-of-samples (fair .served (c .before .before .before .before .before .before .before .before .before .before .before .before .before .before .before .before .before .before .before .before .before .pre .1)) (s .task .measure) _ _ (s .reference-luma .now) (s .task .reference .luma) (lumaReference (s .task) (s .given)) _ (size .wide) (size .high) (source-is (c .before .before .before .before .before .before .before))
 
 pub luma-table-spec : {M : Type 1} → statement M
 luma-table-spec =
@@ -93,6 +99,7 @@ luma-table-spec =
     source-block-requires
     (λ c κs. search needs)
     (λ c κs. search needs)
+    offsets-requires
     (λ c. search needs)
-    table-requires
+    costs-requires
     returns)

@@ -10,8 +10,8 @@ use Rattle.whole.specs.Interval.{Is, is-within, read-within}
 use Rattle.plane.specs.Samples.{placedFrom, nth, gathered}
 use Rattle.plane.specs.Reads.{area-small}
 use Rattle.tables.specs.Laws.{natural-most}
-use Rattle.best.specs.Best.{chromaWidth, chromaHeight, choiceOf, chromaReference, planeTable}
-use Rattle.best.specs.Laws.{counts-read, natural-read, width-in, height-in, chroma-sized, chroma-reached, table-of-block}
+use Rattle.best.specs.Best.{chromaWidth, chromaHeight, chromaReference, chromaOffsets, planeTable}
+use Rattle.best.specs.Laws.{counts-read, natural-read, width-in, height-in, chroma-sized, table-of-block}
 use Rattle.best.proofs.plane_table.Statement.{statement}
 use Rattle.best.proofs.plane_table.Tie as tie
 
@@ -25,10 +25,7 @@ shift : (c : tie.Start) → Is w32 0 1 (toZ w32 (ofZ w32 (c .args .task .shift))
 shift c = is-within w32 (c .pre .0 .0 .shift-in) tt tt
 
 step-is : (c : tie.After-natural) → c .natural .result ≡ natAbs (c .before .before .before .before .before .before .before .before .before .before .args .source .pitch)
-step-is c = natural-read (c .natural .ensures) (c .before .before .before .before .before .before .before .before .before .before .pre .1 .0 .pitch-in)
-
-own : (c : tie.Start) → Is w32 0 65536 (toZ w32 (ofZ w32 (c .args .pitch))) (c .args .pitch)
-own c = is-within w32 (c .pre .1 .1) tt tt
+step-is c = natural-read (c .natural .ensures) (c .before .before .before .before .before .before .before .before .before .before .pre .1 .0 .0 .pitch-in)
 
 w-is : (c : tie.After-chroma-side) → c .chroma-side .result ≡ chromaWidth (c .before .before .before .before .before .before .before .args .task) (c .before .before .before .before .before .before .before .args .given)
 w-is c = rw ((x (c .before .before .before .before .before .before .before)) .same, (shift (c .before .before .before .before .before .before .before)) .same) at (c .chroma-side .ensures)
@@ -43,56 +40,45 @@ chroma-side-requires-2 : tie.Need-chroma-side-requires-2
 chroma-side-requires-2 c κs = read-within (y (c .before .before .before .before .before .before .before))
 
 natural-requires : tie.Need-natural-requires
-natural-requires c κs = counts-read (c .before .before .before .before .before .before .before .before .before .pre .1 .0 .pitch-in)
+natural-requires c κs = counts-read (c .before .before .before .before .before .before .before .before .before .pre .1 .0 .0 .pitch-in)
 
 gather-from-requires : tie.Need-gather-from-requires
 gather-from-requires c κs =
     let size = chroma-sized (c .before .before .before .before .before .before .before .before .before .before .pre .0 .0) in
-    rw (step-is c, w-is (c .before .before .before), h-is (c .before .before)) (natural-most (c .before .before .before .before .before .before .before .before .before .before .pre .1 .0 .pitch-in), (size .wide, size .high))
+    rw (step-is c, w-is (c .before .before .before), h-is (c .before .before)) (natural-most (c .before .before .before .before .before .before .before .before .before .before .pre .1 .0 .0 .pitch-in), (size .wide, size .high))
 
 source-is : (c : tie.After-gather-from) →
     let s = c .before .before .before .before .before .before .before .before .before .before .before .args in
     c .gather-from .result ≡ gathered (chromaHeight (s .task) (s .given) * chromaWidth (s .task) (s .given)) (nth (chromaWidth (s .task) (s .given)) (placedFrom (s .samples .now) (s .origin) (natAbs (s .source .pitch))))
 source-is c = rw (step-is (c .before), w-is (c .before .before .before .before), h-is (c .before .before .before)) at (c .gather-from .ensures)
 
-against-is : (c : tie.After-chroma-reference) → c .chroma-reference .result ≡ chromaReference (c .before .before .before .before .before .before .before .before .before .before .before .before .args .task) (c .before .before .before .before .before .before .before .before .before .before .before .before .args .given) (c .before .before .before .before .before .before .before .before .before .before .before .before .args .pitch)
-against-is c = rw ((own (c .before .before .before .before .before .before .before .before .before .before .before .before)) .same) at (c .chroma-reference .ensures)
-
-table-requires : tie.Need-table-requires
-table-requires c κs =
-    let fair = c .before .before .before .before .before .before .before .before .before .before .before .before .before .before .pre .0 .0 in
+costs-requires : tie.Need-costs-requires
+costs-requires c κs =
+    let fair = c .before .before .before .before .before .before .before .before .before .before .before .before .before .pre .0 .0 in
     let size = chroma-sized fair in
     let small = area-small _ _ (size .wide) (size .high) in (
       (
         record {
-          wide = rw (w-is (c .before .before .before .before .before .before .before)) (size .wide);
-          some = rw (h-is (c .before .before .before .before .before .before)) (omega (arith, size .tall));
-          high = rw (h-is (c .before .before .before .before .before .before)) (size .high);
-          held = rw (w-is (c .before .before .before .before .before .before .before), h-is (c .before .before .before .before .before .before)) (omega (arith, small, c .before .before .before .gather-from .ok));
+          wide = rw (w-is (c .before .before .before .before .before .before)) (size .wide);
+          some = rw (h-is (c .before .before .before .before .before)) (omega (arith, size .tall));
+          high = rw (h-is (c .before .before .before .before .before)) (size .high);
+          held = rw (w-is (c .before .before .before .before .before .before), h-is (c .before .before .before .before .before)) (omega (arith, small, c .before .before .gather-from .ok));
         },
-        rw (against-is (c .before .before)) (chroma-reached fair (c .before .before .before .before .before .before .before .before .before .before .before .before .before .before .pre .1 .1)),
+        (c .before .before .before .before .before .before .before .before .before .before .before .before .before .pre .1 .0 .1, c .before .before .before .before .before .before .before .before .before .before .before .before .before .pre .1 .1 .1),
       ),
-      rw (c .before .choice-of .ensures) (fair .served (c .before .before .before .before .before .before .before .before .before .before .before .before .before .before .pre .0 .1)),
+      rw (c .before .choice-of .ensures) (fair .served (c .before .before .before .before .before .before .before .before .before .before .before .before .before .pre .0 .1)),
     )
 
 returns : tie.Need-returns
-unfolding planeTable
+unfolding planeTable chromaOffsets
 returns c =
-    let s = c .before .before .before .before .before .before .before .before .before .before .before .before .before .before .before .args in
-    let size = chroma-sized (c .before .before .before .before .before .before .before .before .before .before .before .before .before .before .before .pre .0 .0) in
-    rw (w-is (c .before .before .before .before .before .before .before .before), h-is (c .before .before .before .before .before .before .before), against-is (c .before .before .before), c .before .before .choice-of .ensures) at (c .table .ensures)
-    ∙ table-of-block (choiceOf (s .task) (s .given)) (s .task .measure) _ _ (s .reference .now) (chromaReference (s .task) (s .given) (s .pitch)) (size .wide) (size .high) _ (source-is (c .before .before .before .before))
+    let s = c .before .before .before .before .before .before .before .before .before .before .before .before .before .before .args in
+    let fair = c .before .before .before .before .before .before .before .before .before .before .before .before .before .before .pre .0 .0 in
+    let size = chroma-sized fair in
+    rw (w-is (c .before .before .before .before .before .before .before), h-is (c .before .before .before .before .before .before), c .before .before .before .before .before .before .before .before .before .before .before .before .before .before .pre .1 .1 .0, c .before .before .choice-of .ensures) at (c .costs .ensures)
+    ∙ table-of-block (fair .served (c .before .before .before .before .before .before .before .before .before .before .before .before .before .before .pre .0 .1)) (s .task .measure) _ _ (s .reference .now) (s .own) (chromaReference (s .task) (s .given)) _ (size .wide) (size .high) (source-is (c .before .before .before))
 
 pub plane-table-spec : {M : Type 1} → statement M
 plane-table-spec =
     tie.close
-    (tie.spec
-    chroma-side-requires
-    chroma-side-requires-2
-    natural-requires
-    gather-from-requires
-    (λ c κs. search needs)
-    (λ c κs. search needs)
-    (λ c. search needs)
-    table-requires
-    returns)
+    (tie.spec chroma-side-requires chroma-side-requires-2 natural-requires gather-from-requires (λ c κs. search needs) (λ c. search needs) costs-requires returns)

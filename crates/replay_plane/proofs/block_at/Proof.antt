@@ -35,8 +35,8 @@ gather-requires c κs =
     let s = c .before .before .before in
     let f = s .fits .x in
     let g = s .fits .y in
-    let at : SFits w64 (c .offset-of .result) = record { sfits = c .offset-of .ok } in
-    let near : Near (c .offset-of .result) = rw (simp toZ-ofZ at (c .offset-of .ensures)) (subpel-near (s .args .place) (s .pre .0) f g) in
+    let at : SFits w64 (c .subpel-of .result) = record { sfits = c .subpel-of .ok } in
+    let near : Near (c .subpel-of .result) = rw (simp toZ-ofZ at (c .subpel-of .ensures)) (subpel-near (s .args .place) (s .pre .0) f g) in
     ((near-read at near, pitch-read (pitch-fits (c .before)) (s .pre .0 .pitch-in)), s .pre .1)
 
 pub block-at-spec : {M : Type 1} → statement M

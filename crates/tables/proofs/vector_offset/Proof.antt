@@ -1,0 +1,54 @@
+-- Positions fit i16 and vectors are little longer, so that the sums fit; the offset is near, as every offset of a plane is. Assumes nothing.
+use borrow.Author.Needs.{needs}
+use mir.Facts.{toZ-ofZ}
+use mir.Syntax.{w32, w64}
+use mir.Val.{SFits, toZ, ofZ}
+use Rattle.whole.specs.Signed.{got}
+use Rattle.whole.specs.Interval.{Is, fits, is-call, is-within, is-add, ask-add}
+use Rattle.limits.specs.Limits.{shiftedBy}
+use Rattle.plane.specs.Offsets.{subpel-near}
+use Rattle.tables.specs.Tables.{vectorOffset}
+use Rattle.tables.specs.Laws.{shifted-within}
+use Rattle.tables.proofs.vector_offset.Statement.{statement}
+use Rattle.tables.proofs.vector_offset.Tie as tie
+
+shift-fits : (c : tie.After-struct-told3) → SFits w32 (c .before .before .before .before .before .args .reference .shift)
+shift-fits c = record { sfits = c .struct-told3 .given .1 .1 .1 .0 .1 }
+
+-- ---- the column
+dx : (c : tie.After-shifted) → Is w32 32768 65536 (toZ w32 (ofZ w32 (c .shifted .result))) (shiftedBy (c .before .before .before .before .before .before .args .vx) (c .before .before .before .before .before .before .args .reference .shift))
+dx c =
+    let f = c .before .before .before .before .before .before .fits .vx in
+    let g = shift-fits (c .before) in
+    is-call w32 (c .shifted .ok) (simp toZ-ofZ at (c .shifted .ensures)) (shifted-within (c .before .before .before .before .before .before .args .reference .shift) (c .before .before .before .before .before .before .pre .1 .0))
+
+px : (c : tie.Start) → Is w32 32768 32767 (toZ w32 (ofZ w32 (c .args .reference .x))) (c .args .reference .x)
+px c = is-within w32 (c .pre .0 .x-in) tt tt
+
+-- ---- the row
+dy : (c : tie.After-shifted2) → Is w32 32768 65536 (toZ w32 (ofZ w32 (c .shifted2 .result))) (shiftedBy (c .before .before .before .before .before .before .before .args .vy) (c .before .before .before .before .before .before .before .args .reference .shift))
+dy c =
+    let f = c .before .before .before .before .before .before .before .fits .vy in
+    let g = shift-fits (c .before .before) in
+    is-call w32 (c .shifted2 .ok) (simp toZ-ofZ at (c .shifted2 .ensures)) (shifted-within (c .before .before .before .before .before .before .before .args .reference .shift) (c .before .before .before .before .before .before .before .pre .1 .1))
+
+py : (c : tie.Start) → Is w32 32768 32767 (toZ w32 (ofZ w32 (c .args .reference .y))) (c .args .reference .y)
+py c = is-within w32 (c .pre .0 .y-in) tt tt
+
+add-x : tie.Need-add-x
+add-x c = ask-add (px (c .before .before .before .before .before .before)) (dx c) tt tt
+
+add-y : tie.Need-add-y
+add-y c = ask-add (py (c .before .before .before .before .before .before .before)) (dy c) tt tt
+
+returns : tie.Need-returns
+unfolding vectorOffset
+returns c =
+    let x = is-add (px (c .before .before .before .before .before .before .before .before)) (dx (c .before .before)) tt tt in
+    let y = is-add (py (c .before .before .before .before .before .before .before .before)) (dy (c .before)) tt tt in
+    let same = got w64 (c .subpel-of .ok) (rw (x .same, y .same) at (c .subpel-of .ensures)) in
+    let near = subpel-near (c .before .before .before .before .before .before .before .before .args .reference .place) (c .before .before .before .before .before .before .before .before .pre .0 .placed) (fits (x .lies) tt tt) (fits (y .lies) tt tt) in
+    (same, rw same near)
+
+pub vector-offset-spec : {M : Type 1} → statement M
+vector-offset-spec = tie.close (tie.spec (λ c κs. search needs) add-x (λ c κs. search needs) add-y (λ c κs. search needs) returns)
