@@ -112,19 +112,36 @@ pub alike-references : {p P : Place} {a b c A B C : ℤ} → p ≡ P → a ≡ A
 alike-references e f g h = cc
 
 -- ---- what `Fair` leaves
+-- ---- the sides of the blocks compared, of a block that is one of the three
+module _ (task : Task) (given : Record) (block-in : isBlock (task .block .x) (task .block .y) ≡ true) where
+  pub searched-sides : Sized (widthOf task given) (heightOf task given)
+  searched-sides = halved-or-not (isNegative given) (task .block .x) (task .block .y) block-in
+
+  pub chroma-sides : Sized (chromaWidth task given) (chromaHeight task given)
+  chroma-sides = by (ltZ (task .shift) (pos 1))
+    where
+      by : (t : Bool) → Sized (natAbs (cond t (task .block .x) (shrZ (task .block .x) 2))) (natAbs (cond t (task .block .y) (shrZ (task .block .y) 2)))
+      by true = halved-or-not false (task .block .x) (task .block .y) block-in
+      by false = halved-or-not true (task .block .x) (task .block .y) block-in
+
+  -- the cost of a vector, between bytes
+  pub luma-most-at : (luma reference : List ℕ) → ((n : ℕ) → getD luma n 0 < 256) → ((n : ℕ) → getD reference n 0 < 256) →
+      (x y : ℤ) → lumaCost task given luma reference x y ≤ 130560
+  luma-most-at luma reference p q =
+      vector-most (task .measure) (widthOf task given) (heightOf task given) (sourceBlock task given luma) reference
+      (task .reference .luma) (lumaReference task given) (searched-sides .wide) (searched-sides .high)
+      (λ y x. source-byte luma p (natAbs (task .source .luma .pitch)) (given .full) (given .overlay)
+      (natAbs (task .block .x)) (natAbs (task .block .y)) (y * widthOf task given + x)) q
+
 module _ {task : Task} {given : Record} (fair : Fair task given) where
   pub full-sized : Sized (natAbs (task .block .x)) (natAbs (task .block .y))
   full-sized = halved-or-not false (task .block .x) (task .block .y) (fair .block-in)
 
   pub searched-sized : Sized (widthOf task given) (heightOf task given)
-  searched-sized = halved-or-not (isNegative given) (task .block .x) (task .block .y) (fair .block-in)
+  searched-sized = searched-sides task given (fair .block-in)
 
-  pub chroma-sized : Sized (natAbs (shiftedBy (task .block .x) (task .shift))) (natAbs (shiftedBy (task .block .y) (task .shift)))
-  chroma-sized = by (ltZ (task .shift) (pos 1))
-    where
-      by : (t : Bool) → Sized (natAbs (cond t (task .block .x) (shrZ (task .block .x) 2))) (natAbs (cond t (task .block .y) (shrZ (task .block .y) 2)))
-      by true = halved-or-not false (task .block .x) (task .block .y) (fair .block-in)
-      by false = halved-or-not true (task .block .x) (task .block .y) (fair .block-in)
+  pub chroma-sized : Sized (chromaWidth task given) (chromaHeight task given)
+  chroma-sized = chroma-sides task given (fair .block-in)
 
   pub width-in : Within 0 16 (task .block .x)
   width-in = side-x (task .block .x) (task .block .y) (fair .block-in)
@@ -173,11 +190,7 @@ module _ {task : Task} {given : Record} (fair : Fair task given) where
   -- ---- how large costs are, between bytes
   pub luma-cost-most : (luma reference : List ℕ) → ((n : ℕ) → getD luma n 0 < 256) → ((n : ℕ) → getD reference n 0 < 256) →
       (x y : ℤ) → lumaCost task given luma reference x y ≤ 130560
-  luma-cost-most luma reference p q =
-      vector-most (task .measure) (widthOf task given) (heightOf task given) (sourceBlock task given luma) reference
-      (task .reference .luma) (lumaReference task given) (searched-sized .wide) (searched-sized .high)
-      (λ y x. source-byte luma p (natAbs (task .source .luma .pitch)) (given .full) (given .overlay)
-      (natAbs (task .block .x)) (natAbs (task .block .y)) (y * widthOf task given + x)) q
+  luma-cost-most = luma-most-at task given (fair .block-in)
 
   pub luma-most : (luma reference : List ℕ) → ((n : ℕ) → getD luma n 0 < 256) → ((n : ℕ) → getD reference n 0 < 256) →
       Most 130560 (lumaTable task given luma reference)
@@ -226,7 +239,7 @@ module _ {k : Choice} (served : Served k) (measure : Bool) (w h : ℕ) (samples 
   costs-of : (a b : Block) → Agree w h a b → costsOf a ≡ tableOf 0 k (vectorCost measure w h b samples place r)
   costs-of a b e =
       costs-same measure w h a b samples place (tableOf (pos 0) k (vectorOffset r)) (slotsUsed k) e
-      ∙ costs-of-offsets served (placeCost measure w h b samples place) (vectorOffset r)
+      ∙ costs-of-offsets (served .narrow) (placeCost measure w h b samples place) (vectorOffset r)
 
   pub table-of-samples : {out : List ℕ} (f : ℕ → ℕ) → w ≤ 16 → h ≤ 16 → out ≡ gathered (h * w) f →
       costsOf (blockOf out w) ≡ tableOf 0 k (vectorCost measure w h (λ y x. f (y * w + x)) samples place r)

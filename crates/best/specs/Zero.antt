@@ -29,8 +29,8 @@ use Rattle.best.specs.declared.Task.{Task}
 use Rattle.best.specs.declared.Best.{Best}
 use Rattle.best.specs.Best.{noTable, widthOf, heightOf, choiceOf, sourceBlock, lumaReference, lumaCost, lumaTable}
 use Rattle.best.specs.Best.{chromaWidth, chromaHeight, chromaReference, uCost, vCost, scaleOf, planeTable, chromaTable, chromasOf, bestOf}
-use Rattle.best.specs.Fair.{Fair}
-use Rattle.best.specs.Laws.{Sized, searched-sized, chroma-sized, luma-cost-most}
+use Rattle.best.specs.Fair.{Comparable}
+use Rattle.best.specs.Laws.{Sized, searched-sides, chroma-sides, luma-most-at}
 
 -- ---- a cost over one of the five sizes is 0 exactly between blocks that agree
 module _ (measure : Bool) {w h : ℕ} (size : Sized w h) (a b : Block) where
@@ -129,16 +129,16 @@ module _ (task : Task) (given : Record) (luma u v referenceLuma referenceU refer
     unfolding chromasOf
     held = ap pos (omega (arith, luma-held, chroma-held (isNegative given)))
 
-  module _ (fair : Fair task given) (bad : isBad given ≡ true) (other : liesIn (pos 1) (pos 1) (task .pel) ≡ false) where
+  module _ (known : Comparable task given) (bad : isBad given ≡ true) (other : liesIn (pos 1) (pos 1) (task .pel) ≡ false) where
     own-cost : {x y sad : ℤ} → Own k lumas chromas x y sad → sad ≡ pos (costAt x y)
     unfolding slotOf
     own-cost =
         ⊎-elim
         (λ q. rw (q .0, q .1) (q .2 ∙ held (omega arith) (slot-0 0 k)))
         (λ q.
-        let served = fair .served bad in
+        let narrow = known .narrow bad in
         rw (q .x-is, q .y-is)
-        (q .sad-is ∙ held (inside served (q .in-rows) (q .in-columns) .slot) (λ cost. slot-candidate 0 k cost served (q .in-rows) (q .in-columns))))
+        (q .sad-is ∙ held (inside narrow (q .in-rows) (q .in-columns) .slot) (λ cost. slot-candidate 0 k cost narrow (q .in-rows) (q .in-columns))))
 
     -- ---- the SAD answered is the cost of the vector answered, tripled where the block is negative
     abbrev pub best : Best
@@ -154,21 +154,21 @@ module _ (task : Task) (given : Record) (luma u v referenceLuma referenceU refer
         sad-is
         ∙ ap (λ (n : ℕ). tripledOf (isNegative given) (pos n))
         (none-of (isNegative given) (scaleOf task given)
-        (agree-zero (task .measure) (searched-sized fair) _ _ (q .in-luma))
-        (λ plain. agree-zero (task .measure) (chroma-sized fair) _ _ (q .in-u plain))
-        (λ plain. agree-zero (task .measure) (chroma-sized fair) _ _ (q .in-v plain)))
+        (agree-zero (task .measure) (searched-sides task given (known .block-in)) _ _ (q .in-luma))
+        (λ plain. agree-zero (task .measure) (chroma-sides task given (known .block-in)) _ _ (q .in-u plain))
+        (λ plain. agree-zero (task .measure) (chroma-sides task given (known .block-in)) _ _ (q .in-v plain)))
         ∙ tripled-none (isNegative given)
 
     -- and, between bytes, only there
     module _ (bytes : (n : ℕ) → getD luma n 0 < 256) (reference-bytes : (n : ℕ) → getD referenceLuma n 0 < 256) where
       cost-0 : best .sad ≡ pos 0 → costAt (best .x) (best .y) ≡ 0
-      cost-0 e = tripled-0 (isNegative given) _ _ (luma-cost-most fair luma referenceLuma bytes reference-bytes (best .x) (best .y)) (sym sad-is ∙ e)
+      cost-0 e = tripled-0 (isNegative given) _ _ (luma-most-at task given (known .block-in) luma referenceLuma bytes reference-bytes (best .x) (best .y)) (sym sad-is ∙ e)
 
       pub zero-only : best .sad ≡ pos 0 → AgreeAt (best .x) (best .y)
       zero-only e =
           let none = parts-0 (isNegative given) _ _ (cost-0 e) in
           record {
-            in-luma = zero-agrees (task .measure) (searched-sized fair) _ _ (none .0);
-            in-u = λ plain. zero-agrees (task .measure) (chroma-sized fair) _ _ (scaled-0 (natAbs (task .shift)) (none .1 plain) .0);
-            in-v = λ plain. zero-agrees (task .measure) (chroma-sized fair) _ _ (scaled-0 (natAbs (task .shift)) (none .1 plain) .1);
+            in-luma = zero-agrees (task .measure) (searched-sides task given (known .block-in)) _ _ (none .0);
+            in-u = λ plain. zero-agrees (task .measure) (chroma-sides task given (known .block-in)) _ _ (scaled-0 (natAbs (task .shift)) (none .1 plain) .0);
+            in-v = λ plain. zero-agrees (task .measure) (chroma-sides task given (known .block-in)) _ _ (scaled-0 (natAbs (task .shift)) (none .1 plain) .1);
           }

@@ -13,7 +13,7 @@ use Rattle.whole.specs.Signed.{add-is, diff-is, abs-is}
 use Rattle.whole.specs.Interval.{Within}
 use Rattle.choosing.specs.declared.Choice.{Choice}
 use Rattle.choosing.specs.Choosing.{Walk, countOf, columnsOf, rowsOf, lumaColumn, lumaOf, chromaOf, afterDistance, afterLuma, afterChroma, advanced, restarted, taken, candidate, alongRow, alongRows, plainSad, start}
-use Rattle.choosing.specs.Bounds.{Served}
+use Rattle.choosing.specs.Bounds.{Narrow}
 
 -- ---- a window's sides: counts of i16 numbers, and at most 7 where both are walked
 by-order : (t : Bool) {least greatest : ℤ} → Within 32768 32767 least → Within 32768 32767 greatest → cond t (natAbs (greatest -ℤ least +ℤ pos 1)) 0 ≤ 65536
@@ -30,8 +30,8 @@ pub count-most : {least greatest : ℤ} → Within 32768 32767 least → Within 
 unfolding countOf
 count-most {least} {greatest} p q = by-order (leZ least greatest) p q
 
-pub at-most-7 : {k : Choice} → Served k → 0 < columnsOf k → 0 < rowsOf k → (columnsOf k ≤ 7) × (rowsOf k ≤ 7)
-at-most-7 s columns rows = (s .narrow columns rows, s .low columns rows)
+pub at-most-7 : {k : Choice} → Narrow k → 0 < columnsOf k → 0 < rowsOf k → (columnsOf k ≤ 7) × (rowsOf k ≤ 7)
+at-most-7 s columns rows = (s .across columns rows, s .down columns rows)
 
 -- ---- a candidate's slot is in the table, and so is that of its luma
 pub slot-in : (w j n : ℕ) → w ≤ 7 → j < 7 → n < w → 1 + j * w + n < 50

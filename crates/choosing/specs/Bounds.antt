@@ -4,7 +4,7 @@ use Prim.Native.Nat.{ℕ, _<_, _≤_}
 use lib.ListN.{getD}
 use Rattle.whole.specs.Interval.{Within}
 use Rattle.choosing.specs.declared.Choice.{Choice}
-use Rattle.choosing.specs.Choosing.{countOf}
+use Rattle.choosing.specs.Choosing.{columnsOf, rowsOf}
 
 -- a table of costs: each below 2^20
 pub record Small (table : List ℕ) : Type 0 where
@@ -19,8 +19,11 @@ pub record Ranged (k : Choice) : Type 0 where
   pub least-y : Within 32768 32767 (k .«least_y»)
   pub greatest-y : Within 32768 32767 (k .«greatest_y»)
 
--- and of a window with both sides non-empty neither is over 7, which is 2 x radius + 1 at the greatest radius
+-- of a window with both sides non-empty neither is over 7, which is 2 x radius + 1 at the greatest radius
+pub record Narrow (k : Choice) : Type 0 where
+  pub across : 0 < columnsOf k → 0 < rowsOf k → columnsOf k ≤ 7
+  pub down : 0 < columnsOf k → 0 < rowsOf k → rowsOf k ≤ 7
+
 pub record Served (k : Choice) : Type 0 where
   pub ranged : Ranged k
-  pub narrow : 0 < countOf (k .«least_x») (k .«greatest_x») → 0 < countOf (k .«least_y») (k .«greatest_y») → countOf (k .«least_x») (k .«greatest_x») ≤ 7
-  pub low : 0 < countOf (k .«least_x») (k .«greatest_x») → 0 < countOf (k .«least_y») (k .«greatest_y») → countOf (k .«least_y») (k .«greatest_y») ≤ 7
+  pub narrow : Narrow k

@@ -27,12 +27,12 @@ use Rattle.plane.specs.Places.{limitsHold, keepsLength, Placed}
 use Rattle.plane.specs.Offsets.{accepted-placed}
 use Rattle.choosing.specs.declared.Choice.{Choice}
 use Rattle.choosing.specs.Choosing.{countOf}
-use Rattle.choosing.specs.Bounds.{Ranged, Served}
+use Rattle.choosing.specs.Bounds.{Ranged, Narrow, Served}
 use Rattle.block.specs.declared.Planes.{Planes}
 use Rattle.block.specs.declared.Sides.{Sides}
 use Rattle.best.specs.declared.Task.{Task}
 use Rattle.best.specs.Best.{choiceOf}
-use Rattle.best.specs.Fair.{Fair}
+use Rattle.best.specs.Fair.{Fair, Comparable}
 use Rattle.record_slice.specs.RecordSlice.{recordAt, anyWide}
 use Rattle.planning.specs.Refusals.{chromaHolds, planesHold, holds3}
 use Rattle.planning.specs.Accepted.{shifted-least}
@@ -104,10 +104,10 @@ ranged task r pairs =
     let y = parts (r .«window_y») (t .4) in
     record { x = p .first; y = p .second; least-x = x .first; greatest-x = x .second; least-y = y .first; greatest-y = y .second }
 
-pub served : (task : Task) (radius : ℤ) (r : Record) → Within 0 3 radius → pairsFit r ≡ true → isWide radius r ≡ false → isBad r ≡ true → Served (choiceOf task r)
-served task radius r w pairs e b =
+pub narrowed : (task : Task) (radius : ℤ) (r : Record) → Within 0 3 radius → isWide radius r ≡ false → isBad r ≡ true → Narrow (choiceOf task r)
+narrowed task radius r w e b =
     let both = narrow (mostOf radius) (r .«window_x») (r .«window_y») (most-within radius w) (not-wide radius r e b) in
-    record { ranged = ranged task r pairs; narrow = λ h k. both h k .0; low = λ h k. both h k .1 }
+    record { across = λ h k. both h k .0; down = λ h k. both h k .1 }
 
 -- ---- the planes
 placed-of : (p : Place) (n : ℕ) {width height : ℤ} → limitsHold p ≡ true → keepsLength p n ≡ true → p .width ≡ width → p .height ≡ height →
@@ -146,6 +146,10 @@ searched q e =
     let high = l .1 in
     record { search = omega signed }
 
+block-of : (q : Request) → holds1 q ≡ true → isBlock (q .block .x) (q .block .y) ≡ true
+unfolding holds1
+block-of q e = left-of (isBlock (q .block .x) (q .block .y)) (liesIn (negsuc 2) (pos 3) (q .«search_param»)) e
+
 pub fair : (q : Request) (r : Record) (luma u v referenceLuma referenceU referenceV : ℕ) → holds1 q ≡ true → holds2 q ≡ true →
     holds3 (q .source) luma u v ≡ true → holds3 (q .reference) referenceLuma referenceU referenceV ≡ true →
     pairsFit r ≡ true → isWide (radiusOf (q .«search_param»)) r ≡ false → Fair (taskOf q) r
@@ -166,7 +170,7 @@ fair q r luma u v referenceLuma referenceU referenceV e₁ e₂ e₃ e₄ pairs 
     let own-u = chroma-sized (s .luma) (q .shift) (s .u) (w .0) (w .1) (h .0) (h .1) (p .3) in
     let own-v = chroma-sized (s .luma) (q .shift) (s .v) (w .0) (w .1) (h .0) (h .1) (p .4) in
     record {
-      block-in = left-of (isBlock (q .block .x) (q .block .y)) (liesIn (negsuc 2) (pos 3) (q .«search_param»)) e₁;
+      block-in = block-of q e₁;
       shift-in = shift-within (q .shift .x) (q .shift .y) (t .1);
       source-luma = accepted-placed (s .luma) luma (p .0) (k .0) (own .wide) (own .tall) (own .low);
       source-u = accepted-placed (s .u) u (p .1) (k .1) (own-u .wide) (own-u .tall) (own-u .low);
@@ -175,12 +179,13 @@ fair q r luma u v referenceLuma referenceU referenceV e₁ e₂ e₃ e₄ pairs 
       reference-u = reference-placed (q .pel) (s .u) (g .u) referenceU own-u (m .1) (l .1);
       reference-v = reference-placed (q .pel) (s .v) (g .v) referenceV own-v (m .2) (l .2);
       pairs = pairs;
-      served = λ b. served (taskOf q) (radiusOf (q .«search_param»)) r (radius-within (searched q e₁ .search)) pairs wide b;
+      served = λ b. record { ranged = ranged (taskOf q) r pairs; narrow = narrowed (taskOf q) (radiusOf (q .«search_param»)) r (radius-within (searched q e₁ .search)) wide b };
     }
 
 -- ---- the chain: 0 where every test holds
 pub record Accepted (q : Request) (records : List ℤ) (bests : ℕ) : Type 0 where
   pub fair-all : FairAll (taskOf q) records
+  pub comparable : (i : ℕ) → i < length records / 12 → Comparable (taskOf q) (recordAt records i)
   pub room : 4 * (length records / 12) ≤ bests
 
 pub accepted : (q : Request) (records : List ℤ) (luma u v referenceLuma referenceU referenceV bests : ℕ) → refusalOf q records luma u v referenceLuma referenceU referenceV bests ≡ 0 → Accepted q records bests
@@ -194,9 +199,15 @@ accepted q records luma u v referenceLuma referenceU referenceV bests e =
     let t₃ = let-through (own && other) 2 _ (t₂ .1) in
     let t₅ = let-through (hasRoom (length records) bests) 4 _ (t₃ .1) in
     let t₇ = first-passed (anyWide (radiusOf (q .«search_param»)) records n) 6 0 (t₅ .1) in
+    let each : (i : ℕ) → i < n → isWide (radiusOf (q .«search_param»)) (recordAt records i) ≡ false = λ i l.
+    each-fails (λ j. isWide (radiusOf (q .«search_param»)) (recordAt records j)) n i (t₇ .0) l in
     record {
       fair-all = λ i l pairs.
           fair q (recordAt records i) luma u v referenceLuma referenceU referenceV (t₁ .0) (t₂ .0) (left-of own other (t₃ .0)) (right-of own other (t₃ .0)) pairs
-          (each-fails (λ j. isWide (radiusOf (q .«search_param»)) (recordAt records j)) n i (t₇ .0) l);
+          (each i l);
+      comparable = λ i l. record {
+        block-in = block-of q (t₁ .0);
+        narrow = narrowed (taskOf q) (radiusOf (q .«search_param»)) (recordAt records i) (radius-within (searched q (t₁ .0) .search)) (each i l);
+      };
       room = leb-true (4 * n) bests (right-of (eqb (length records % 12) 0) (leb (4 * n) bests) (t₅ .0));
     }

@@ -3,6 +3,7 @@ pub mod Evaluated
 pub mod Asked
 pub mod Accepted
 pub mod BestsLaws
+pub mod BestsRead
 pub mod Table
 pub mod Outcome
 pub mod Zero

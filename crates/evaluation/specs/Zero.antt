@@ -1,29 +1,81 @@
--- The paper's third demand, last sentence, of an accepted evaluation: at pel 2 or 4 a bad record's best has SAD 0 exactly when all samples compared at its vector
--- agree, a sample outside plane data or without an offset read as 0. What agreeing means is best's `AgreeAt`. Assumes nothing.
-use mathlib.Core.Path.{_≡_}
+-- The paper's third demand, last sentence, of the lent buffer: after an accepted evaluation at pel 2 or 4 the SAD that stands in the buffer for a bad record is 0
+-- exactly when all samples compared at the vector that stands beside it agree, a sample outside plane data or without an offset read as 0. What agreeing means is
+-- best's `AgreeAt`. A sample of a plane is a byte: that is all that is asked of the planes' data, and every lent u8 slice has it. Assumes nothing.
+use mathlib.Core.Path.{_≡_, refl, sym, subst, _∙_}
 use mathlib.Core.Bool.{true, false}
 use mathlib.Core.List.{List}
-use Prim.Native.Nat.{ℕ, _/_, _<_}
+use mathlib.Core.Logic.{_⊎_, ⊎-elim, _↔_}
+use Prim.Native.Nat.{ℕ, _+_, _*_, _/_, _<_}
 use lib.IntN.{ℤ, pos}
-use lib.ListN.{length, getD}
+use lib.ListN.{length, getD, drop}
 use Rattle.whole.specs.Numbers.{liesIn}
-use Rattle.records.specs.Packing.{pairsFit}
+use Rattle.limits.specs.Refused.{kept-done}
 use Rattle.window.specs.Windows.{isBad}
 use Rattle.record_slice.specs.RecordSlice.{recordAt}
+use Rattle.best.specs.declared.Best.{Best}
+use Rattle.best.specs.Fair.{Comparable}
 use Rattle.best.specs.Zero.{AgreeAt, zero-where-agreed, zero-only}
 use Rattle.evaluation.specs.declared.Request.{Request}
-use Rattle.evaluation.specs.Evaluated.{taskOf, bestAt}
-use Rattle.evaluation.specs.Accepted.{Accepted}
+use Rattle.evaluation.specs.Evaluated.{taskOf, bestAt, evaluateAnswer, evaluateBests}
+use Rattle.evaluation.specs.Accepted.{Accepted, accepted}
+use Rattle.evaluation.specs.BestsRead.{Reads, best-reads}
 
-module _ (q : Request) (records : List ℤ) (luma u v referenceLuma referenceU referenceV : List ℕ) {room : ℕ} (accepted : Accepted q records room)
-    (i : ℕ) (there : i < length records / 12) (pairs : pairsFit (recordAt records i) ≡ true) (bad : isBad (recordAt records i) ≡ true) (other : liesIn (pos 1) (pos 1) (q .pel) ≡ false) where
-  pub zero-where-all-agree : AgreeAt (taskOf q) (recordAt records i) luma u v referenceLuma referenceU referenceV
-      (bestAt (taskOf q) records luma u v referenceLuma referenceU referenceV i .x) (bestAt (taskOf q) records luma u v referenceLuma referenceU referenceV i .y) →
-      bestAt (taskOf q) records luma u v referenceLuma referenceU referenceV i .sad ≡ pos 0
-  zero-where-all-agree = zero-where-agreed (taskOf q) (recordAt records i) luma u v referenceLuma referenceU referenceV (accepted .fair-all i there pairs) bad other
+-- ---- what is said of the buffer `bests`, four numbers a record: x, y, SAD, average
+abbrev pub ZeroLaw : Request → List ℤ → List ℕ → List ℕ → List ℕ → List ℕ → List ℕ → List ℕ → List ℤ → Type 0
+ZeroLaw q records luma u v referenceLuma referenceU referenceV bests =
+    (i : ℕ) → i < length records / 12 → isBad (recordAt records i) ≡ true → (q .pel ≡ pos 2) ⊎ (q .pel ≡ pos 4) →
+    (getD bests (4 * i + 2) (pos 0) ≡ pos 0)
+    ↔ AgreeAt (taskOf q) (recordAt records i) luma u v referenceLuma referenceU referenceV (getD bests (4 * i) (pos 0)) (getD bests (4 * i + 1) (pos 0))
 
-  pub zero-only-there : ((n : ℕ) → getD luma n 0 < 256) → ((n : ℕ) → getD referenceLuma n 0 < 256) →
-      bestAt (taskOf q) records luma u v referenceLuma referenceU referenceV i .sad ≡ pos 0 →
-      AgreeAt (taskOf q) (recordAt records i) luma u v referenceLuma referenceU referenceV
-      (bestAt (taskOf q) records luma u v referenceLuma referenceU referenceV i .x) (bestAt (taskOf q) records luma u v referenceLuma referenceU referenceV i .y)
-  zero-only-there = zero-only (taskOf q) (recordAt records i) luma u v referenceLuma referenceU referenceV (accepted .fair-all i there pairs) bad other
+abbrev pub Bytes : List ℕ → Type 0
+Bytes samples = (n : ℕ) → getD samples n 0 < 256
+
+not-1 : (pel : ℤ) → (pel ≡ pos 2) ⊎ (pel ≡ pos 4) → liesIn (pos 1) (pos 1) pel ≡ false
+not-1 pel = ⊎-elim (λ e. rw e refl) (λ e. rw e refl)
+
+module _ (q : Request) (records : List ℤ) (luma u v referenceLuma referenceU referenceV : List ℕ) (bests : List ℤ)
+    (done : evaluateAnswer q records luma u v referenceLuma referenceU referenceV (length bests) ≡ 0) where
+  -- what evaluating leaves in the lent buffer
+  abbrev pub after : List ℤ
+  after = evaluateBests q records luma u v referenceLuma referenceU referenceV bests
+
+  taken : Accepted q records (length bests)
+  unfolding evaluateAnswer
+  taken = accepted q records (length luma) (length u) (length v) (length referenceLuma) (length referenceU) (length referenceV) (length bests) done
+
+  module _ (i : ℕ) (there : i < length records / 12) where
+    abbrev best : Best
+    best = bestAt (taskOf q) records luma u v referenceLuma referenceU referenceV i
+
+    reads : Reads after i best
+    unfolding evaluateBests
+    reads =
+        subst (λ (l : List ℤ). Reads l i best) (sym (kept-done _ _ bests done))
+        (best-reads (taskOf q) records luma u v referenceLuma referenceU referenceV (length records / 12) i (drop (4 * (length records / 12)) bests) there)
+
+    -- all samples compared at a vector agree
+    abbrev Alike : ℤ → ℤ → Type 0
+    Alike x y = AgreeAt (taskOf q) (recordAt records i) luma u v referenceLuma referenceU referenceV x y
+
+    -- at the vector in the buffer as at the best's own
+    to-buffer : Alike (best .x) (best .y) → Alike (getD after (4 * i) (pos 0)) (getD after (4 * i + 1) (pos 0))
+    to-buffer a = rw (reads .x, reads .y) a
+
+    to-best : Alike (getD after (4 * i) (pos 0)) (getD after (4 * i + 1) (pos 0)) → Alike (best .x) (best .y)
+    to-best a = rw (reads .x, reads .y) at a
+
+    module _ (bad : isBad (recordAt records i) ≡ true) (pel : (q .pel ≡ pos 2) ⊎ (q .pel ≡ pos 4)) (bytes : Bytes luma) (reference-bytes : Bytes referenceLuma) where
+      known : Comparable (taskOf q) (recordAt records i)
+      known = taken .comparable i there
+
+      only-there : getD after (4 * i + 2) (pos 0) ≡ pos 0 → Alike (getD after (4 * i) (pos 0)) (getD after (4 * i + 1) (pos 0))
+      only-there e =
+          to-buffer (zero-only (taskOf q) (recordAt records i) luma u v referenceLuma referenceU referenceV known bad (not-1 (q .pel) pel) bytes reference-bytes (sym (reads .sad) ∙ e))
+
+      where-all-agree : Alike (getD after (4 * i) (pos 0)) (getD after (4 * i + 1) (pos 0)) → getD after (4 * i + 2) (pos 0) ≡ pos 0
+      where-all-agree a =
+          reads .sad ∙ zero-where-agreed (taskOf q) (recordAt records i) luma u v referenceLuma referenceU referenceV known bad (not-1 (q .pel) pel) (to-best a)
+
+  -- ---- the law
+  pub zero-law : Bytes luma → Bytes referenceLuma → ZeroLaw q records luma u v referenceLuma referenceU referenceV after
+  zero-law bytes reference-bytes i there bad pel = (only-there i there bad pel bytes reference-bytes, where-all-agree i there bad pel bytes reference-bytes)

@@ -24,7 +24,7 @@ use Rattle.plane.specs.Reads.{sample-byte}
 use Rattle.plane_view.specs.View.{placeBlock, placeCost}
 use Rattle.choosing.specs.declared.Choice.{Choice}
 use Rattle.choosing.specs.Choosing.{countOf, columnsOf, rowsOf, slotOf}
-use Rattle.choosing.specs.Bounds.{Served, Small}
+use Rattle.choosing.specs.Bounds.{Narrow, Small}
 use Rattle.tables.specs.declared.Reference.{Reference}
 use Rattle.tables.specs.Tables.{vectorOffset, vectorCost, candidateOf, withRow, withRows, withPredictor, tableOf}
 use Rattle.tables.specs.Tables.{slotsUsed, costsUpto, joinedUpto, joined}
@@ -79,10 +79,10 @@ pub record Inside (k : Choice) (j i : ℕ) : Type 0 where
   pub column : i < 7
   pub slot : 1 + j * columnsOf k + i < 50
 
-pub inside : {k : Choice} {j i : ℕ} → Served k → j < rowsOf k → i < columnsOf k → Inside k j i
+pub inside : {k : Choice} {j i : ℕ} → Narrow k → j < rowsOf k → i < columnsOf k → Inside k j i
 inside {k} {j} {i} p l m =
-    let narrow = p .narrow (omega arith) (omega arith) in
-    let low = p .low (omega arith) (omega arith) in
+    let narrow = p .across (omega arith) (omega arith) in
+    let low = p .down (omega arith) (omega arith) in
     let t = mul-le-mul {n₁ = j} {m₁ = columnsOf k} {n₂ = 6} {m₂ = 7} (omega arith) narrow in
     record { row = omega arith; column = omega arith; slot = omega arith }
 
@@ -153,7 +153,7 @@ module _ {A : Type 0} (none : A) (k : Choice) (of : ℤ → ℤ → A) where
       (lt-or-ge j n)
 
   -- and slot 1 + j x columns + i the candidate's in column i of row j
-  pub slot-candidate : {j i : ℕ} → Served k → j < rowsOf k → i < columnsOf k → getD (tableOf none k of) (slotOf k j i) none ≡ candidateOf k of j i
+  pub slot-candidate : {j i : ℕ} → Narrow k → j < rowsOf k → i < columnsOf k → getD (tableOf none k of) (slotOf k j i) none ≡ candidateOf k of j i
   unfolding tableOf slotOf
   slot-candidate {j} {i} p l m =
       rows-hold (rowsOf k) j i (withPredictor none k of) l m (omega (arith, inside p l m .slot, long-start))
@@ -191,7 +191,7 @@ module _ (cost : ℤ → ℕ) (offsets : List ℤ) where
   costs-next n = rw add-one
 
 -- a window's slots lie in the table
-pub slots-few : {k : Choice} → Served k → slotsUsed k ≤ 50
+pub slots-few : {k : Choice} → Narrow k → slotsUsed k ≤ 50
 slots-few {k} p =
     ⊎-elim
     (λ (none : columnsOf k < 1). let t = mul-le-mul {n₁ = rowsOf k} {m₁ = columnsOf k} {n₂ = rowsOf k} {m₂ = 0} (omega arith) (omega arith) in omega arith)
@@ -203,7 +203,7 @@ slots-few {k} p =
     by (suc j) some last = omega (arith, last j (omega arith) .slot)
 
 -- of a table of offsets they are the table of costs
-module _ {k : Choice} (served : Served k) (cost : ℤ → ℕ) (offset-of : ℤ → ℤ → ℤ) where
+module _ {k : Choice} (narrow : Narrow k) (cost : ℤ → ℕ) (offset-of : ℤ → ℤ → ℤ) where
   abbrev offsets : List ℤ
   offsets = tableOf (pos 0) k offset-of
 
@@ -218,7 +218,7 @@ module _ {k : Choice} (served : Served k) (cost : ℤ → ℕ) (offset-of : ℤ 
   unfolding withRow slotOf
   upto-row j zero l m e = ap (costsUpto cost offsets) (omega arith) ∙ e
   upto-row j (suc i) l m e =
-      let held : getD offsets (slotOf k j i) (pos 0) ≡ candidateOf k offset-of j i = slot-candidate (pos 0) k offset-of served l (omega arith) in
+      let held : getD offsets (slotOf k j i) (pos 0) ≡ candidateOf k offset-of j i = slot-candidate (pos 0) k offset-of narrow l (omega arith) in
       ap (costsUpto cost offsets) (omega arith)
       ∙ costs-next cost offsets (slotOf k j i)
       ∙ ap (λ (t : List ℕ). set t (slotOf k j i) (cost (getD offsets (slotOf k j i) (pos 0)))) (upto-row j i l (omega arith) e)

@@ -12,6 +12,7 @@ use lib.Dec.{eqb, ltb, leb, lit<}
 use lib.IntN.{ℤ, pos, negsuc, natAbs, _*ℤ_}
 use lib.ListN.{length, getD}
 use lib.Signed.{ltZ, leZ, _≤ℤ_, _<ℤ_}
+use Rattle.evaluation.specs.BestsRead.{Reads, best-reads}
 use Rattle.limits.specs.Ranges.{at-each-pel}
 use Rattle.whole.specs.Numbers.{rootOf, liesIn, fitsI16}
 use Rattle.whole.specs.Root.{root-is}
@@ -45,7 +46,7 @@ use Rattle.finishing.specs.Finish.{refused1, sidesOver, refused2, isStray, refu
 use Rattle.finishing.specs.Finish as finish
 use Rattle.plan_laws.specs.ReadBack.{planned, record-read}
 use Rattle.whole_pass.specs.Pass.{passBest, storing, putting, passVectors, passOutput}
-use Rattle.whole_pass.specs.Lists.{Reads, best-reads, index-reads, written-alike}
+use Rattle.whole_pass.specs.Lists.{index-reads, written-alike}
 
 -- ---- a best's vector fits i16
 best-tame : (task : Task) (r : Record) (luma u v referenceLuma referenceU referenceV : List ℕ) → pairsFit r ≡ true →

@@ -189,7 +189,7 @@ module _ (a : Head) where
   tight l =
       let w = columns-are (row-of a) in
       let h = rows-are (row-of a) in
-      let b = at-most-7 (begin (row-of a) .pre .0) (omega arith) (omega arith) in
+      let b = at-most-7 (begin (row-of a) .pre .0 .narrow) (omega arith) (omega arith) in
       (omega (arith, b .0), omega (arith, b .1))
 
   vy-is : read (a .before .y-at .result) ≡ K (row-of a) .«least_y» +ℤ pos (J (row-of a))

@@ -33,13 +33,13 @@ returns-2 : tie.Need-returns-2
 returns-2 c e =
     let r = in-range (c .before .before .before .before .before .before .before) in
     let w = columns-are (c .before .before) in
-    record { ranged = r; narrow = λ some any. absurd (omega arith); low = λ some any. absurd (omega arith) }
+    record { ranged = r; narrow = record { across = λ some any. absurd (omega arith); down = λ some any. absurd (omega arith) } }
 
 returns-3 : tie.Need-returns-3
 returns-3 c e =
     let r = in-range (c .before .before .before .before .before .before .before .before) in
     let h = rows-are (c .before .before) in
-    record { ranged = r; narrow = λ some any. absurd (omega arith); low = λ some any. absurd (omega arith) }
+    record { ranged = r; narrow = record { across = λ some any. absurd (omega arith); down = λ some any. absurd (omega arith) } }
 
 returns-4 : tie.Need-returns-4
 returns-4 c e =
@@ -50,7 +50,7 @@ returns-4 c e =
     let rows = c .before .before .count2 .result in
     let a = leb-true columns 7 (left-of (leb columns 7) (leb rows 7) e) in
     let b = leb-true rows 7 (right-of (leb columns 7) (leb rows 7) e) in
-    record { ranged = r; narrow = λ some any. omega arith; low = λ some any. omega arith }
+    record { ranged = r; narrow = record { across = λ some any. omega arith; down = λ some any. omega arith } }
 
 pub served-spec : {M : Type 1} → statement M
 served-spec =

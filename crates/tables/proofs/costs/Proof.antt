@@ -29,7 +29,7 @@ abbrev μ-loop : tie.MeasureT-loop
 μ-loop measure w h block samples place offsets used out₀ n₀ out n = used - n
 
 few : (c : tie.In-loop Inv-loop μ-loop) → c .before .loop .n < 50
-few c = omega (arith, c .loop-test .taken, c .before .before .slots-used .ensures, slots-few (c .before .before .before .before .before .pre .1))
+few c = omega (arith, c .loop-test .taken, c .before .before .slots-used .ensures, slots-few (c .before .before .before .before .before .pre .1 .narrow))
 
 -- the slot's offset, as the machine reads it
 at : (c : tie.After-at Inv-loop μ-loop) → Is w64 281474976710656 281474976710656 (toZ w64 (ofZ w64 (getD (c .before .before .before .before .before .before .args .offsets .now) (c .before .before .loop .n) (pos 0)))) (getD (c .before .before .before .before .before .before .args .offsets .now) (c .before .before .loop .n) (pos 0))

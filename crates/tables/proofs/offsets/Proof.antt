@@ -54,7 +54,7 @@ loop2-holds c = let inv = c .before .loop .inv in (omega arith, (inv .1 .0 ∙ s
 -- the candidate's slot
 here : (c : tie.In-loop2 Inv-loop2 μ-loop2 Inv-loop μ-loop) → Inside (c .before .before .before .before .before .before .before .before .before .before .args .choice) (c .before .before .before .loop .j) (c .before .loop2 .i)
 here c =
-    inside (c .before .before .before .before .before .before .before .before .before .before .pre .1)
+    inside (c .before .before .before .before .before .before .before .before .before .before .pre .1 .narrow)
     (omega (arith, c .before .before .loop-test .taken, c .before .before .before .before .before .before .before .rows-of .ensures))
     (omega (arith, c .loop2-test .taken, c .before .before .before .before .before .before .before .before .columns-of .ensures))
 

@@ -12,10 +12,10 @@ used : (c : tie.After-rows-of) → 1 + c .rows-of .result * c .before .columns-o
 used c = rw (c .rows-of .ensures, c .before .columns-of .ensures)
 
 mul-result : tie.Need-mul-result
-mul-result c = omega (arith, used c, slots-few (c .before .before .pre))
+mul-result c = omega (arith, used c, slots-few (c .before .before .pre .narrow))
 
 add-result : tie.Need-add-result
-add-result c = omega (arith, used c, slots-few (c .before .before .pre))
+add-result c = omega (arith, used c, slots-few (c .before .before .pre .narrow))
 
 pub slots-used-spec : {M : Type 1} → statement M
 slots-used-spec = tie.close (tie.spec (λ c κs. search needs) (λ c κs. search needs) mul-result add-result used)

@@ -1,0 +1,55 @@
+-- What is read of the bests that were written one behind the other: of each record its own four numbers. Assumes nothing.
+use mathlib.Core.Path.{_≡_, sym, ap, subst, _∙_}
+use mathlib.Core.List.{List, _++_, append-assoc}
+use mathlib.Core.Logic.{⊎-elim}
+use Prim.Native.Nat.{ℕ, zero, suc, _+_, _*_, _<_}
+use native.Mathlib.Omega.{arith}
+use lib.IntN.{ℤ, pos}
+use lib.ListN.{getD, length}
+use lib.Seq.{getD-append-add}
+use Rattle.whole.specs.Signed.{lt-or-ge}
+use Rattle.best.specs.declared.Task.{Task}
+use Rattle.best.specs.declared.Best.{Best}
+use Rattle.evaluation.specs.Evaluated.{bestList, bestAt, bestsUpto}
+use Rattle.evaluation.specs.BestsLaws.{bests-long}
+
+-- a place behind others
+pub behind : (front back : List ℤ) (n k : ℕ) → length front ≡ n → getD (front ++ back) (n + k) (pos 0) ≡ getD back k (pos 0)
+behind front back n k e = ap (λ (m : ℕ). getD (front ++ back) (m + k) (pos 0)) (sym e) ∙ getD-append-add front back k (pos 0)
+
+-- ---- bests: four numbers each
+pub record Reads (bests : List ℤ) (i : ℕ) (b : Best) : Type 0 where
+  pub x : getD bests (4 * i) (pos 0) ≡ b .x
+  pub y : getD bests (4 * i + 1) (pos 0) ≡ b .y
+  pub sad : getD bests (4 * i + 2) (pos 0) ≡ b .sad
+  pub average : getD bests (4 * i + 3) (pos 0) ≡ b .average
+
+last-reads : (front tail : List ℤ) (i : ℕ) (b : Best) → length front ≡ 4 * i → Reads (front ++ (bestList b ++ tail)) i b
+last-reads front tail i b e =
+    let first : 4 * i ≡ 4 * i + 0 = omega arith in
+    record {
+      x = ap (λ (m : ℕ). getD (front ++ (bestList b ++ tail)) m (pos 0)) first ∙ behind front (bestList b ++ tail) (4 * i) 0 e;
+      y = behind front (bestList b ++ tail) (4 * i) 1 e;
+      sad = behind front (bestList b ++ tail) (4 * i) 2 e;
+      average = behind front (bestList b ++ tail) (4 * i) 3 e;
+    }
+
+module _ (task : Task) (records : List ℤ) (luma u v referenceLuma referenceU referenceV : List ℕ) where
+  abbrev best : ℕ → Best
+  best = bestAt task records luma u v referenceLuma referenceU referenceV
+
+  abbrev upto : ℕ → List ℤ
+  upto = bestsUpto task records luma u v referenceLuma referenceU referenceV
+
+  pub best-reads : (n i : ℕ) (tail : List ℤ) → i < n → Reads (upto n ++ tail) i (best i)
+  unfolding bestsUpto
+  best-reads zero i tail l = absurd (omega arith)
+  best-reads (suc n) i tail l =
+      let joined = sym (append-assoc (upto n) (bestList (best n)) tail) in
+      ⊎-elim
+      (λ h. subst (λ (k : List ℤ). Reads k i (best i)) joined (best-reads n i (bestList (best n) ++ tail) h))
+      (λ h.
+      let same : n ≡ i = omega arith in
+      subst (λ (j : ℕ). Reads (upto n ++ bestList (best n) ++ tail) j (best j)) same
+      (subst (λ (k : List ℤ). Reads k n (best n)) joined (last-reads (upto n) tail n (best n) (bests-long task records luma u v referenceLuma referenceU referenceV n))))
+      (lt-or-ge i n)
