@@ -7,7 +7,7 @@ use Rattle.records.specs.declared.Pair.{Pair}
 use Rattle.records.specs.declared.Record.{Record}
 use Rattle.slots.specs.declared.Source.{Source}
 use Rattle.slots.specs.declared.Slots.{Slots}
-use Rattle.slots.specs.Slots.{lumaWritten, chromaWritten, activeOf, withActive, insideOf, movedTo}
+use Rattle.slots.specs.Slots.{activeOf, lumaInActive, chromaInActive, insideOf, oneActive}
 use Rattle.plane.specs.declared.Place.{Place}
 use Rattle.plane.specs.Places.{pel1Of}
 use Rattle.axis.specs.Axis.{windowOf}
@@ -21,16 +21,16 @@ use Rattle.block.specs.declared.Step.{Step}
 use Rattle.block.specs.Shapes.{shapeOf, lambdaOf, isBad, movesOf, spotOf}
 
 -- ---- the slots
--- what a bad block writes of a place: its luma, and "A bad plain block also sets u and v."
-unfoldable pub filledWith : Planes → Bool → Spot → Source → Source
-filledWith p negative spot s =
-    let written = lumaWritten negative (pel1Of (p .luma) (spot .x) (spot .y)) s in
-    cond negative written (chromaWritten (pel1Of (p .u) (spot .cx) (spot .cy)) (pel1Of (p .v) (spot .cx) (spot .cy)) written)
+-- what a bad block writes of a place into the active slot: its luma, and "A bad plain block also sets u and v."
+unfoldable pub filledWith : Planes → Bool → Spot → Slots → Slots
+filledWith p negative spot t =
+    let written = lumaInActive negative (pel1Of (p .luma) (spot .x) (spot .y)) t in
+    cond negative written (chromaInActive (pel1Of (p .u) (spot .cx) (spot .cy)) (pel1Of (p .v) (spot .cx) (spot .cy)) written)
 
 -- "Both axes 0: slot 0 becomes active and supplies the samples, even if this block has just written slot 1. Otherwise .. slot 1 is written with the moved
 -- place and becomes active"
 unfoldable pub settledAt : Planes → Bool → Bool → Spot → Slots → Slots
-settledAt p negative moves spot t = cond moves (movedTo (filledWith p negative spot (t .one)) t) (insideOf t)
+settledAt p negative moves spot t = cond moves (filledWith p negative spot (oneActive t)) (insideOf t)
 
 -- ---- the record
 -- "flags (BAD 1, NEGATIVE 2)"
@@ -88,7 +88,7 @@ badRecord b h spot lambda s average =
 unfoldable pub badStep : Planes → Sides → Block → Shape → ℤ → Slots → Step
 badStep p shift b h lambda t =
     let own = spotOf shift false h in
-    let written = withActive (filledWith p (h .negative) own (activeOf t)) t in
+    let written = filledWith p (h .negative) own t in
     let spot = spotOf shift (movesOf h) h in
     let after = settledAt p (h .negative) (movesOf h) spot written in
     record { made = badRecord b h spot lambda (activeOf after) (At (pel1Of (p .luma) (own .x) (own .y))); slots = after }
@@ -97,7 +97,7 @@ badStep p shift b h lambda t =
 unfoldable pub lumaStep : Place → Block → Shape → ℤ → Slots → Step
 lumaStep luma b h lambda t =
     let at = pel1Of luma (h .across .origin) (h .down .origin) in
-    record { made = quietRecord b (h .negative) lambda (At at); slots = withActive (lumaWritten (h .negative) at (activeOf t)) t }
+    record { made = quietRecord b (h .negative) lambda (At at); slots = lumaInActive (h .negative) at t }
 
 -- "its average is absent unless luma is needed"
 unfoldable pub quietStep : Block → Bool → ℤ → Slots → Step

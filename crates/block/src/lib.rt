@@ -257,14 +257,15 @@ fn offset_at(place: Place, x: i32, y: i32) -> i32
     plane::pel1(place, x, y) as i32
 }
 
-fn filled(planes: Planes, negative: bool, spot: Spot, source: Source) -> Source
+// The active slot is written with a place.
+fn filled(planes: Planes, negative: bool, spot: Spot, slots: Slots) -> Slots
     requires { ⌜ SpotHeld planes negative spot ⌝ }
-    ensures { λ r. ⌜ r ≡ filledWith planes negative spot source ⌝ }
+    ensures { λ r. ⌜ r ≡ filledWith planes negative spot slots ⌝ }
 {
     let luma = planes.luma;
     let x = spot.x;
     let y = spot.y;
-    let written = slots::after_luma(source, negative, offset_at(luma, x, y));
+    let written = slots::after_luma(slots, negative, offset_at(luma, x, y));
     if negative {
         return written;
     }
@@ -280,9 +281,8 @@ fn settled(planes: Planes, negative: bool, moves: bool, spot: Spot, slots: Slots
     ensures { λ r. ⌜ r ≡ settledAt planes negative moves spot slots ⌝ }
 {
     if moves {
-        let one = slots.one;
-        let source = filled(planes, negative, spot, one);
-        return slots::moved(slots, source);
+        let switched = slots::to_one(slots);
+        return filled(planes, negative, spot, switched);
     }
     slots::inside(slots)
 }
@@ -407,9 +407,7 @@ fn bad_step(
     let luma = planes.luma;
     let negative = shape.negative;
     let own = spot_of(shape, shift, false);
-    let before = slots::active(slots);
-    let wrote = filled(planes, negative, own, before);
-    let written = slots::with_active(slots, wrote);
+    let written = filled(planes, negative, own, slots);
     let moves = is_moved(shape);
     let spot = spot_of(shape, shift, moves);
     let after = settled(planes, negative, moves, spot, written);
@@ -435,9 +433,7 @@ fn luma_step(luma: Place, block: Block, shape: Shape, lambda: i32, slots: Slots)
     let x = across.origin;
     let y = down.origin;
     let at = offset_at(luma, x, y);
-    let before = slots::active(slots);
-    let wrote = slots::after_luma(before, negative, at);
-    let after = slots::with_active(slots, wrote);
+    let after = slots::after_luma(slots, negative, at);
     let made = quiet_record(block, negative, lambda, Offset::At(at));
     Step {
         made: made,

@@ -12,9 +12,7 @@ use Rattle.records.specs.declared.Offset.the-variants.{At, Absent}
 use Rattle.records.specs.declared.Record.{Record}
 use Rattle.slots.specs.declared.Source.{Source}
 use Rattle.slots.specs.declared.Slots.{Slots}
-use Rattle.slots.specs.Slots.{noSource, atStart, lumaWritten, chromaWritten, activeOf, withActive, insideOf, movedTo}
-use Rattle.plane.specs.declared.Place.{Place}
-use Rattle.plane.specs.Places.{pel1Of}
+use Rattle.slots.specs.Slots.{noSource, atStart, lumaWritten, chromaWritten, activeOf, withActive, lumaInActive, chromaInActive}
 use Rattle.axis.specs.Axis.{placeOf}
 use Rattle.block.specs.declared.Sides.{Sides}
 use Rattle.block.specs.declared.Planes.{Planes}
@@ -63,10 +61,8 @@ luma-sourced : (negative : Bool) {at : ℤ} {s : Source} → Within 0 1073741822
 luma-sourced true w k = record { full = k .full; half = at-in w; u = k .u; v = k .v }
 luma-sourced false w k = record { full = at-in w; half = none-in; u = k .u; v = k .v }
 
-filled-sourced : (p : Planes) (negative : Bool) (spot : Spot) {s : Source} → SpotHeld p negative spot → Sourced s → Sourced (filledWith p negative spot s)
-unfolding filledWith
-filled-sourced p true spot h k = luma-sourced true (h .luma .offset-in) k
-filled-sourced p false spot h k = record { full = at-in (h .luma .offset-in); half = none-in; u = at-in (h .u refl .offset-in); v = at-in (h .v refl .offset-in) }
+chroma-sourced : {u v : ℤ} {s : Source} → Within 0 1073741822 u → Within 0 1073741822 v → Sourced s → Sourced (chromaWritten u v s)
+chroma-sourced wu wv k = record { full = k .full; half = k .half; u = at-in wu; v = at-in wv }
 
 -- both slots
 pub record Both (t : Slots) : Type 0 where
@@ -92,9 +88,20 @@ written-both {t} s b k = by (t .«one_active») refl
     by true q = rw q (record { zero = b .zero; one = k })
     by false q = rw q (record { zero = k; one = b .one })
 
+luma-both : (negative : Bool) {at : ℤ} {t : Slots} → Within 0 1073741822 at → Both t → Both (lumaInActive negative at t)
+luma-both negative {at} {t} w b = written-both (lumaWritten negative at (activeOf t)) b (luma-sourced negative w (active-sourced b))
+
+chroma-both : {u v : ℤ} {t : Slots} → Within 0 1073741822 u → Within 0 1073741822 v → Both t → Both (chromaInActive u v t)
+chroma-both {u} {v} {t} wu wv b = written-both (chromaWritten u v (activeOf t)) b (chroma-sourced wu wv (active-sourced b))
+
+filled-both : (p : Planes) (negative : Bool) (spot : Spot) {t : Slots} → SpotHeld p negative spot → Both t → Both (filledWith p negative spot t)
+unfolding filledWith
+filled-both p true spot h b = luma-both true (h .luma .offset-in) b
+filled-both p false spot h b = chroma-both (h .u refl .offset-in) (h .v refl .offset-in) (luma-both false (h .luma .offset-in) b)
+
 settled-both : (p : Planes) (negative moves : Bool) (spot : Spot) {t : Slots} → SpotHeld p negative spot → Both t → Both (settledAt p negative moves spot t)
 unfolding settledAt
-settled-both p negative true spot h b = record { zero = b .zero; one = filled-sourced p negative spot h (b .one) }
+settled-both p negative true spot h b = filled-both p negative spot h (record { zero = b .zero; one = b .one })
 settled-both p negative false spot h b = record { zero = b .zero; one = b .one }
 
 -- ---- one block: the slots after it, and its record's five offsets
@@ -112,24 +119,25 @@ record Stepped (d : Step) : Type 0 where
 module _ {s : Settings} {b : Block} (k : Ready s b) where
   bad-stepped : (lambda : ℤ) {t : Slots} → Both t → Stepped (badStep (s .planes) (s .shift) b (shapeOf s b) lambda t)
   unfolding badStep badRecord
-  bad-stepped lambda {t} both =
+  bad-stepped lambda both =
       let h = shapeOf s b in
       let own = spot-held k false in
       let there = spot-held k (movesOf h) in
-      let first = filledWith (s .planes) (h .negative) (spotOf (s .shift) false h) (activeOf t) in
-      let written = written-both first both (filled-sourced (s .planes) (h .negative) (spotOf (s .shift) false h) own (active-sourced both)) in
+      let written = filled-both (s .planes) (h .negative) (spotOf (s .shift) false h) own both in
       let after = settled-both (s .planes) (h .negative) (movesOf h) (spotOf (s .shift) (movesOf h) h) there written in
       let source = active-sourced after in
-      record { slots = after; made = record { full = source .full; overlay = source .half; u = source .u; v = source .v; average = at-in (own .luma .offset-in) } }
+      record {
+        slots = after;
+        made = record { full = source .full; overlay = source .half; u = source .u; v = source .v; average = at-in (own .luma .offset-in) };
+      }
 
   luma-stepped : (lambda : ℤ) {t : Slots} → Both t → Stepped (lumaStep (s .planes .luma) b (shapeOf s b) lambda t)
   unfolding lumaStep quietRecord
-  luma-stepped lambda {t} both =
+  luma-stepped lambda both =
       let h = shapeOf s b in
       let at = origin-addressed k .offset-in in
-      let written = lumaWritten (h .negative) (pel1Of (s .planes .luma) (h .across .origin) (h .down .origin)) (activeOf t) in
       record {
-        slots = written-both written both (luma-sourced (h .negative) at (active-sourced both));
+        slots = luma-both (h .negative) at both;
         made = record { full = none-in; overlay = none-in; u = none-in; v = none-in; average = at-in at };
       }
 
@@ -144,7 +152,9 @@ module _ {s : Settings} {b : Block} (k : Ready s b) where
       lambda : ℤ
       lambda = lambdaOf (s .weights) (shapeOf s b .negative)
 
-      by : (bad need : Bool) → Stepped (cond bad (badStep (s .planes) (s .shift) b (shapeOf s b) lambda t) (cond need (lumaStep (s .planes .luma) b (shapeOf s b) lambda t) (quietStep b (shapeOf s b .negative) lambda t)))
+      by : (bad need : Bool) →
+          Stepped (cond bad (badStep (s .planes) (s .shift) b (shapeOf s b) lambda t)
+          (cond need (lumaStep (s .planes .luma) b (shapeOf s b) lambda t) (quietStep b (shapeOf s b .negative) lambda t)))
       by true need = bad-stepped lambda both
       by false true = luma-stepped lambda both
       by false false = quiet-stepped lambda both

@@ -12,7 +12,7 @@ use Rattle.records.specs.declared.Offset.the-variants.{At, Absent}
 use Rattle.records.specs.declared.Record.{Record}
 use Rattle.slots.specs.declared.Source.{Source}
 use Rattle.slots.specs.declared.Slots.{Slots}
-use Rattle.slots.specs.Slots.{noSource, atStart, lumaWritten, chromaWritten, activeOf, withActive, insideOf, movedTo}
+use Rattle.slots.specs.Slots.{atStart, lumaWritten, chromaWritten, activeOf, withActive, lumaInActive, chromaInActive}
 use Rattle.plane.specs.declared.Place.{Place}
 use Rattle.plane.specs.Places.{pel1Of}
 use Rattle.block.specs.declared.Sides.{Sides}
@@ -21,7 +21,6 @@ use Rattle.block.specs.declared.Settings.{Settings}
 use Rattle.block.specs.declared.Block.{Block}
 use Rattle.block.specs.declared.Shape.{Shape}
 use Rattle.block.specs.declared.Spot.{Spot}
-use Rattle.block.specs.declared.Step.{Step}
 use Rattle.block.specs.Shapes.{shapeOf, lambdaOf, isBad, movesOf, spotOf}
 use Rattle.block.specs.Steps.{filledWith, settledAt, badRecord, badStep, lumaStep, quietStep, stepWith, stepOf}
 use Rattle.passes.specs.Fold.{turnAt, slotsAt}
@@ -45,7 +44,8 @@ lit s = isThere (s .full) || isThere (s .half)
 -- ---- a slot that was written
 luma-paired : (negative : Bool) (at : ℤ) (s : Source) → paired s ≡ true → paired (lumaWritten negative at s) ≡ true
 luma-paired true at s e = e
-luma-paired false at s e = both-of (left-of (alike (isThere (s .u)) (isThere (s .v))) (not (isThere (s .u)) || isThere (s .full)) e) (full-there (isThere (s .u)))
+luma-paired false at s e =
+    both-of (left-of (alike (isThere (s .u)) (isThere (s .v))) (not (isThere (s .u)) || isThere (s .full)) e) (full-there (isThere (s .u)))
   where
     full-there : (t : Bool) → (not t || true) ≡ true
     full-there true = refl
@@ -58,17 +58,6 @@ luma-lit true at s = half-there (isThere (s .full))
     half-there true = refl
     half-there false = refl
 luma-lit false at s = refl
-
-module _ (p : Planes) where
-  filled-paired : (negative : Bool) (spot : Spot) (s : Source) → paired s ≡ true → paired (filledWith p negative spot s) ≡ true
-  unfolding filledWith
-  filled-paired true spot s e = e
-  filled-paired false spot s e = refl
-
-  filled-lit : (negative : Bool) (spot : Spot) (s : Source) → lit (filledWith p negative spot s) ≡ true
-  unfolding filledWith
-  filled-lit true spot s = luma-lit true (pel1Of (p .luma) (spot .x) (spot .y)) s
-  filled-lit false spot s = refl
 
 -- ---- both slots; and while slot 1 is active, slot 0 has luma: what the first of a run of moved blocks wrote
 pub record Handed (t : Slots) : Type 0 where
@@ -86,13 +75,47 @@ active-paired {t} h = by (t .«one_active»)
     by true = h .one-paired
     by false = h .zero-paired
 
--- the active slot written: it has luma then, and if that was slot 0, slot 0 has
-written-handed : {t : Slots} (s : Source) → Handed t → paired s ≡ true → lit s ≡ true → Handed (withActive s t) × (lit (withActive s t .zero) ≡ true)
-written-handed {t} s h e l = by (t .«one_active») refl
+-- ---- the active slot written: it has luma then, and if that was slot 0, slot 0 has
+record Written (t : Slots) : Type 0 where
+  handed : Handed t
+  zero-lit : lit (t .zero) ≡ true
+  active-lit : lit (activeOf t) ≡ true
+
+written : {t : Slots} (s : Source) → Handed t → paired s ≡ true → lit s ≡ true → Written (withActive s t)
+written {t} s h e l = by (t .«one_active») refl
   where
-    by : (a : Bool) → t .«one_active» ≡ a → Handed (withActive s t) × (lit (withActive s t .zero) ≡ true)
-    by true q = rw q (record { zero-paired = h .zero-paired; one-paired = e; zero-lit = λ k. h .zero-lit q }, h .zero-lit q)
-    by false q = rw q (record { zero-paired = e; one-paired = h .one-paired; zero-lit = λ k. l }, l)
+    by : (a : Bool) → t .«one_active» ≡ a → Written (withActive s t)
+    by true q =
+        let kept : Handed (record { zero = t .zero; one = s; «one_active» = true }) =
+        record { zero-paired = h .zero-paired; one-paired = e; zero-lit = λ k. h .zero-lit q } in
+        rw q (record { handed = kept; zero-lit = h .zero-lit q; active-lit = l })
+    by false q =
+        let kept : Handed (record { zero = s; one = t .one; «one_active» = false }) = record { zero-paired = e; one-paired = h .one-paired; zero-lit = λ k. l } in
+        rw q (record { handed = kept; zero-lit = l; active-lit = l })
+
+luma-in : (negative : Bool) (at : ℤ) {t : Slots} → Handed t → Written (lumaInActive negative at t)
+luma-in negative at {t} h =
+    written (lumaWritten negative at (activeOf t)) h (luma-paired negative at (activeOf t) (active-paired h)) (luma-lit negative at (activeOf t))
+
+-- what was written into the active slot is what stands there
+active-is : (s : Source) (t : Slots) → activeOf (withActive s t) ≡ s
+active-is s t = by (t .«one_active»)
+  where
+    by : (a : Bool) → activeOf (withActive s (record { zero = t .zero; one = t .one; «one_active» = a })) ≡ s
+    by true = refl
+    by false = refl
+
+-- u and v come after a plain block's luma, so that full is there
+chroma-in : (u v at : ℤ) {t : Slots} → Handed t → Written (chromaInActive u v (lumaInActive false at t))
+chroma-in u v at {t} h =
+    let first = lumaWritten false at (activeOf t) in
+    let there : activeOf (lumaInActive false at t) ≡ first = active-is first t in
+    written (chromaWritten u v (activeOf (lumaInActive false at t))) (luma-in false at h .handed) (rw there refl) (rw there refl)
+
+filled : (p : Planes) (negative : Bool) (spot : Spot) {t : Slots} → Handed t → Written (filledWith p negative spot t)
+unfolding filledWith
+filled p true spot h = luma-in true (pel1Of (p .luma) (spot .x) (spot .y)) h
+filled p false spot h = chroma-in (pel1Of (p .u) (spot .cx) (spot .cy)) (pel1Of (p .v) (spot .cx) (spot .cy)) (pel1Of (p .luma) (spot .x) (spot .y)) h
 
 -- ---- one block
 -- the offsets of a record, as the source that they were taken from
@@ -100,30 +123,29 @@ abbrev pub sourceOf : Record → Source
 sourceOf r = record { full = r .full; half = r .overlay; u = r .u; v = r .v }
 
 -- "slot 1 is written with the moved place and becomes active", or "slot 0 becomes active and supplies the samples"
-settled-handed : (p : Planes) (negative moves : Bool) (spot : Spot) {t : Slots} → Handed t → lit (t .zero) ≡ true →
-    Handed (settledAt p negative moves spot t) × (paired (activeOf (settledAt p negative moves spot t)) ≡ true) × (lit (activeOf (settledAt p negative moves spot t)) ≡ true)
+settled : (p : Planes) (negative moves : Bool) (spot : Spot) {t : Slots} → Written t → Written (settledAt p negative moves spot t)
 unfolding settledAt
-settled-handed p negative true spot {t} h l =
-    let e = filled-paired p negative spot (t .one) (h .one-paired) in
-    (record { zero-paired = h .zero-paired; one-paired = e; zero-lit = λ k. l }, e, filled-lit p negative spot (t .one))
-settled-handed p negative false spot {t} h l =
-    (record { zero-paired = h .zero-paired; one-paired = h .one-paired; zero-lit = λ k. l }, h .zero-paired, l)
+settled p negative true spot {t} w =
+    filled p negative spot (record { zero-paired = w .handed .zero-paired; one-paired = w .handed .one-paired; zero-lit = λ k. w .zero-lit })
+settled p negative false spot {t} w =
+    record {
+      handed = record { zero-paired = w .handed .zero-paired; one-paired = w .handed .one-paired; zero-lit = λ k. w .zero-lit };
+      zero-lit = w .zero-lit;
+      active-lit = w .zero-lit;
+    }
 
 -- a bad block's record: u and v together, and then full too; and full or overlay is there
 pub bad-step-sources : (p : Planes) (shift : Sides) (b : Block) (h : Shape) (lambda : ℤ) {t : Slots} → Handed t →
-    Handed (badStep p shift b h lambda t .slots) × (paired (sourceOf (badStep p shift b h lambda t .made)) ≡ true) × (lit (sourceOf (badStep p shift b h lambda t .made)) ≡ true)
+    Handed (badStep p shift b h lambda t .slots) × (paired (sourceOf (badStep p shift b h lambda t .made)) ≡ true) ×
+    (lit (sourceOf (badStep p shift b h lambda t .made)) ≡ true)
 unfolding badStep badRecord
 bad-step-sources p shift b h lambda {t} k =
-    let own = spotOf shift false h in
-    let first = filledWith p (h .negative) own (activeOf t) in
-    let w = written-handed first k (filled-paired p (h .negative) own (activeOf t) (active-paired k)) (filled-lit p (h .negative) own (activeOf t)) in
-    settled-handed p (h .negative) (movesOf h) (spotOf shift (movesOf h) h) (w .0) (w .1)
+    let after = settled p (h .negative) (movesOf h) (spotOf shift (movesOf h) h) (filled p (h .negative) (spotOf shift false h) k) in
+    (after .handed, active-paired (after .handed), after .active-lit)
 
 luma-step-handed : (luma : Place) (b : Block) (h : Shape) (lambda : ℤ) {t : Slots} → Handed t → Handed (lumaStep luma b h lambda t .slots)
 unfolding lumaStep
-luma-step-handed luma b h lambda {t} k =
-    let at = pel1Of luma (h .across .origin) (h .down .origin) in
-    written-handed (lumaWritten (h .negative) at (activeOf t)) k (luma-paired (h .negative) at (activeOf t) (active-paired k)) (luma-lit (h .negative) at (activeOf t)) .0
+luma-step-handed luma b h lambda k = luma-in (h .negative) (pel1Of luma (h .across .origin) (h .down .origin)) k .handed
 
 pub step-handed : (s : Settings) (b : Block) {t : Slots} → Handed t → Handed (stepOf s b t .slots)
 unfolding stepOf stepWith quietStep
@@ -135,7 +157,8 @@ step-handed s b {t} k = by (isBad (s .weights) (h .negative) (b .sad)) (s .level
     lambda : ℤ
     lambda = lambdaOf (s .weights) (shapeOf s b .negative)
 
-    by : (bad need : Bool) → Handed (cond bad (badStep (s .planes) (s .shift) b h lambda t) (cond need (lumaStep (s .planes .luma) b h lambda t) (quietStep b (h .negative) lambda t)) .slots)
+    by : (bad need : Bool) →
+        Handed (cond bad (badStep (s .planes) (s .shift) b h lambda t) (cond need (lumaStep (s .planes .luma) b h lambda t) (quietStep b (h .negative) lambda t)) .slots)
     by true need = bad-step-sources (s .planes) (s .shift) b h lambda k .0
     by false true = luma-step-handed (s .planes .luma) b h lambda k
     by false false = k

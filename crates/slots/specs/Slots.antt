@@ -35,9 +35,18 @@ put false s t = record { zero = s; one = t .one; «one_active» = t .«one_activ
 abbrev pub withActive : Source → Slots → Slots
 withActive s t = put (t .«one_active») s t
 
--- "Both axes 0: slot 0 becomes active .. Otherwise .. slot 1 is written with the moved place and becomes active"
+-- "writes its luma origin into the active slot"
+abbrev pub lumaInActive : Bool → ℤ → Slots → Slots
+lumaInActive negative offset t = withActive (lumaWritten negative offset (activeOf t)) t
+
+-- "A bad plain block also sets u and v", in the same slot
+abbrev pub chromaInActive : ℤ → ℤ → Slots → Slots
+chromaInActive u v t = withActive (chromaWritten u v (activeOf t)) t
+
+-- "Both axes 0: slot 0 becomes active"
 abbrev pub insideOf : Slots → Slots
 insideOf t = record { zero = t .zero; one = t .one; «one_active» = false }
 
-abbrev pub movedTo : Source → Slots → Slots
-movedTo s t = record { zero = t .zero; one = s; «one_active» = true }
+-- "Otherwise .. slot 1 is written with the moved place and becomes active": it becomes active first, so that the write goes there.
+abbrev pub oneActive : Slots → Slots
+oneActive t = record { zero = t .zero; one = t .one; «one_active» = true }

@@ -2,7 +2,7 @@
 // Nothing here clears a slot. What an earlier block left is what a later one reads.
 use records::Offset;
 ghost use mathlib.Core.Path.{_≡_};
-ghost use Rattle.slots.specs.Slots.{noSource, atStart, lumaWritten, chromaWritten, activeOf, withActive, insideOf, movedTo};
+ghost use Rattle.slots.specs.Slots.{noSource, atStart, lumaWritten, chromaWritten, activeOf, withActive, lumaInActive, chromaInActive, insideOf, oneActive};
 
 pub struct Source {
     pub full: Offset,
@@ -39,7 +39,63 @@ pub fn at_start() -> Slots
     }
 }
 
-// ---- what a write leaves
+// ---- which slot
+pub fn active(slots: Slots) -> Source
+    ensures { λ r. ⌜ r ≡ activeOf slots ⌝ }
+{
+    if slots.one_active {
+        return slots.one;
+    }
+    slots.zero
+}
+
+fn with_active(slots: Slots, source: Source) -> Slots
+    ensures { λ r. ⌜ r ≡ withActive source slots ⌝ }
+{
+    let one_active = slots.one_active;
+    if one_active {
+        let zero = slots.zero;
+        return Slots {
+            zero: zero,
+            one: source,
+            one_active: one_active,
+        };
+    }
+    let one = slots.one;
+    Slots {
+        zero: source,
+        one: one,
+        one_active: one_active,
+    }
+}
+
+// A block inside its limits makes slot 0 active, and changes nothing in either.
+pub fn inside(slots: Slots) -> Slots
+    ensures { λ r. ⌜ r ≡ insideOf slots ⌝ }
+{
+    let zero = slots.zero;
+    let one = slots.one;
+    Slots {
+        zero: zero,
+        one: one,
+        one_active: false,
+    }
+}
+
+// A block that moves makes slot 1 active, and then writes there.
+pub fn to_one(slots: Slots) -> Slots
+    ensures { λ r. ⌜ r ≡ oneActive slots ⌝ }
+{
+    let zero = slots.zero;
+    let one = slots.one;
+    Slots {
+        zero: zero,
+        one: one,
+        one_active: true,
+    }
+}
+
+// ---- what a write leaves of a source
 // A negative block's samples lie over those of the full block, which stay; a plain block's own take
 // their place.
 fn luma_written(source: Source, negative: bool, offset: i32) -> Source
@@ -77,90 +133,52 @@ fn chroma_written(source: Source, u: i32, v: i32) -> Source
     }
 }
 
-// ---- the writes: a source is changed where it stands
-pub fn write_luma(source: &mut Source, negative: bool, offset: i32)
-    ensures { λ _. ⌜ now (source .exit) ≡ lumaWritten negative offset (now (source .entry)) ⌝ }
+// ---- the cores: what a write leaves of the two slots, from a value to a value
+fn luma_in_active(slots: Slots, negative: bool, offset: i32) -> Slots
+    ensures { λ r. ⌜ r ≡ lumaInActive negative offset slots ⌝ }
 {
-    let before = *source;
-    *source = luma_written(before, negative, offset);
+    let before = active(slots);
+    let written = luma_written(before, negative, offset);
+    with_active(slots, written)
 }
 
-pub fn write_chroma(source: &mut Source, u: i32, v: i32)
-    ensures { λ _. ⌜ now (source .exit) ≡ chromaWritten u v (now (source .entry)) ⌝ }
+fn chroma_in_active(slots: Slots, u: i32, v: i32) -> Slots
+    ensures { λ r. ⌜ r ≡ chromaInActive u v slots ⌝ }
 {
-    let before = *source;
-    *source = chroma_written(before, u, v);
+    let before = active(slots);
+    let written = chroma_written(before, u, v);
+    with_active(slots, written)
 }
 
-// ---- the same from a value to a value: a source of their own is lent to the write. Who calls these
+// ---- the writes: the record of both slots is changed where it stands
+pub fn write_luma(slots: &mut Slots, negative: bool, offset: i32)
+    ensures { λ _. ⌜ now (slots .exit) ≡ lumaInActive negative offset (now (slots .entry)) ⌝ }
+{
+    let before = *slots;
+    *slots = luma_in_active(before, negative, offset);
+}
+
+pub fn write_chroma(slots: &mut Slots, u: i32, v: i32)
+    ensures { λ _. ⌜ now (slots .exit) ≡ chromaInActive u v (now (slots .entry)) ⌝ }
+{
+    let before = *slots;
+    *slots = chroma_in_active(before, u, v);
+}
+
+// ---- the same from a value to a value: a record of their own is lent to the write. Who calls these
 // lends nothing.
-pub fn after_luma(source: Source, negative: bool, offset: i32) -> Source
-    ensures { λ r. ⌜ r ≡ lumaWritten negative offset source ⌝ }
+pub fn after_luma(slots: Slots, negative: bool, offset: i32) -> Slots
+    ensures { λ r. ⌜ r ≡ lumaInActive negative offset slots ⌝ }
 {
-    let mut own = source;
+    let mut own = slots;
     write_luma(&mut own, negative, offset);
     own
 }
 
-pub fn after_chroma(source: Source, u: i32, v: i32) -> Source
-    ensures { λ r. ⌜ r ≡ chromaWritten u v source ⌝ }
+pub fn after_chroma(slots: Slots, u: i32, v: i32) -> Slots
+    ensures { λ r. ⌜ r ≡ chromaInActive u v slots ⌝ }
 {
-    let mut own = source;
+    let mut own = slots;
     write_chroma(&mut own, u, v);
     own
-}
-
-// ---- which slot
-pub fn active(slots: Slots) -> Source
-    ensures { λ r. ⌜ r ≡ activeOf slots ⌝ }
-{
-    if slots.one_active {
-        return slots.one;
-    }
-    slots.zero
-}
-
-pub fn with_active(slots: Slots, source: Source) -> Slots
-    ensures { λ r. ⌜ r ≡ withActive source slots ⌝ }
-{
-    let one_active = slots.one_active;
-    if one_active {
-        let zero = slots.zero;
-        return Slots {
-            zero: zero,
-            one: source,
-            one_active: one_active,
-        };
-    }
-    let one = slots.one;
-    Slots {
-        zero: source,
-        one: one,
-        one_active: one_active,
-    }
-}
-
-// A block inside its limits makes slot 0 active, and changes nothing in either.
-pub fn inside(slots: Slots) -> Slots
-    ensures { λ r. ⌜ r ≡ insideOf slots ⌝ }
-{
-    let zero = slots.zero;
-    let one = slots.one;
-    Slots {
-        zero: zero,
-        one: one,
-        one_active: false,
-    }
-}
-
-// A block that moved has its place in slot 1, which becomes active.
-pub fn moved(slots: Slots, source: Source) -> Slots
-    ensures { λ r. ⌜ r ≡ movedTo source slots ⌝ }
-{
-    let zero = slots.zero;
-    Slots {
-        zero: zero,
-        one: source,
-        one_active: true,
-    }
 }

@@ -1,12 +1,12 @@
 -- Luma first, and then a plain block's chroma. Assumes nothing.
 use borrow.Author.Needs.{needs}
-use mathlib.Core.Path.{_≡_, _∙_}
+use mathlib.Core.Path.{_≡_}
 use mir.Facts.{toZ-ofZ}
 use mir.Syntax.{w32}
 use mir.Val.{SFits, toZ, ofZ}
 use Rattle.whole.specs.Signed.{got}
 use Rattle.plane.specs.Places.{pel1Of}
-use Rattle.block.specs.Steps.{filledWith}
+use Rattle.block.specs.Stages.{negative-filled, plain-filled}
 use Rattle.block.proofs.filled.Statement.{statement}
 use Rattle.block.proofs.filled.Tie as tie
 
@@ -37,8 +37,9 @@ luma-is c =
     got w32 (c .offset-at .ok) (simp toZ-ofZ at (c .offset-at .ensures))
 
 returns : tie.Need-returns
-unfolding filledWith
-returns c = simp (luma-is (c .before .before)) at (c .before .after-luma .ensures) ∙ simp (c .if1 .taken)
+returns c =
+    let a = c .before .before .before .before .before .before .args in
+    negative-filled (a .planes) (a .spot) (a .slots) (a .negative) (c .if1 .taken) (luma-is (c .before .before)) (c .before .after-luma .ensures)
 
 offset-at-requires-2 : tie.Need-offset-at-requires-2
 offset-at-requires-2 c κs =
@@ -53,14 +54,16 @@ offset-at-requires-3 c κs =
     simp toZ-ofZ (c .before .before .before .before .before .before .before .before .before .before .before .pre .v (c .before .before .before .before .before .if1 .left))
 
 returns-2 : tie.Need-returns-2
-unfolding filledWith
 returns-2 c =
+    let a = c .before .before .before .before .before .before .before .before .before .before .before .before .before .args in
     let f = cx-fits (c .before .before .before .before .before .before .before .before .before .before) in
     let g = cy-fits (c .before .before .before .before .before .before .before .before .before .before) in
-    let u = got w32 (c .before .before .offset-at2 .ok) (simp toZ-ofZ at (c .before .before .offset-at2 .ensures)) in
-    let v = got w32 (c .before .offset-at3 .ok) (simp toZ-ofZ at (c .before .offset-at3 .ensures)) in
-    let w = simp (luma-is (c .before .before .before .before .before .before .before .before .before)) at (c .before .before .before .before .before .before .before .before .after-luma .ensures) in
-    simp (u, v, w) at (c .after-chroma .ensures) ∙ simp (c .before .before .before .before .before .before .before .if1 .left)
+    plain-filled (a .planes) (a .spot) (a .slots) (a .negative) (c .before .before .before .before .before .before .before .if1 .left)
+    (luma-is (c .before .before .before .before .before .before .before .before .before))
+    (got w32 (c .before .before .offset-at2 .ok) (simp toZ-ofZ at (c .before .before .offset-at2 .ensures)))
+    (got w32 (c .before .offset-at3 .ok) (simp toZ-ofZ at (c .before .offset-at3 .ensures)))
+    (c .before .before .before .before .before .before .before .before .after-luma .ensures)
+    (c .after-chroma .ensures)
 
 pub filled-spec : {M : Type 1} → statement M
 filled-spec =

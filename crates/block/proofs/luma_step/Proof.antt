@@ -35,14 +35,12 @@ at-is c =
 
 returns : tie.Need-returns
 returns c =
-    let s = (c .before .before .before .before .before .before .before .before .before) in
+    let s = (c .before .before .before .before .before .before .before) in
     luma-stages (s .args .luma) (s .args .block) (s .args .shape) (s .args .lambda) (s .args .slots)
-    (at-is (c .before .before .before .before))
-    (c .before .before .before .active .ensures)
-    (c .before .before .after-luma .ensures)
-    (c .before .with-active .ensures)
-    (c .quiet-record .ensures ∙ ap (λ (l : ℤ). quietRecord (s .args .block) (s .args .shape .negative) l (At (toZ w32 (ofZ w32 (c .before .before .before .before .offset-at .result))))) (toZ-ofZ (s .fits .lambda)))
+    (at-is (c .before .before))
+    (c .before .after-luma .ensures)
+    (c .quiet-record .ensures ∙ ap (λ (l : ℤ). quietRecord (s .args .block) (s .args .shape .negative) l (At (toZ w32 (ofZ w32 (c .before .before .offset-at .result))))) (toZ-ofZ (s .fits .lambda)))
 
 pub luma-step-spec : {M : Type 1} → statement M
 luma-step-spec =
-    tie.close (tie.spec offset-at-requires (λ c κs. search needs) (λ c κs. search needs) (λ c κs. search needs) (λ c κs. search needs) returns)
+    tie.close (tie.spec offset-at-requires (λ c κs. search needs) (λ c κs. search needs) returns)

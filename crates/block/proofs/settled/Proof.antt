@@ -1,20 +1,18 @@
--- Moved, or inside. Assumes nothing.
+-- Slot 1 made active and written, or slot 0 made active. Assumes nothing.
 use borrow.Author.Needs.{needs}
-use mathlib.Core.Path.{_∙_, ap}
-use Rattle.slots.specs.declared.Source.{Source}
-use Rattle.slots.specs.Slots.{movedTo}
-use Rattle.block.specs.Steps.{settledAt}
+use Rattle.block.specs.Stages.{moved-settled, inside-settled}
 use Rattle.block.proofs.settled.Statement.{statement}
 use Rattle.block.proofs.settled.Tie as tie
 
 returns : tie.Need-returns
-unfolding settledAt
 returns c =
-    c .moved .ensures ∙ ap (λ (x : Source). movedTo x (c .before .before .before .before .args .slots)) (c .before .filled .ensures) ∙ simp (c .before .before .before .if1 .taken)
+    let a = c .before .before .before .args in
+    moved-settled (a .planes) (a .negative) (a .spot) (a .slots) (a .moves) (c .before .before .if1 .taken) (c .before .to-one .ensures) (c .filled .ensures)
 
 returns-2 : tie.Need-returns-2
-unfolding settledAt
-returns-2 c = c .inside .ensures ∙ simp (c .before .if1 .left)
+returns-2 c =
+    let a = c .before .before .args in
+    inside-settled (a .planes) (a .negative) (a .spot) (a .slots) (a .moves) (c .before .if1 .left) (c .inside .ensures)
 
 pub settled-spec : {M : Type 1} → statement M
-settled-spec = tie.close (tie.spec (λ c κs. c .before .before .pre) (λ c κs. search needs) returns (λ c κs. search needs) returns-2)
+settled-spec = tie.close (tie.spec (λ c κs. search needs) (λ c κs. c .before .before .pre) returns (λ c κs. search needs) returns-2)
