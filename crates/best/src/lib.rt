@@ -227,27 +227,9 @@ fn chroma_table(
     let shift = task.shift;
     let origin_u = given.u;
     let origin_v = given.v;
-    let offsets = chroma_offsets(task, given, reference_u);
-    let us = plane_table(
-        task,
-        given,
-        origin_u,
-        from_u,
-        to_u,
-        u,
-        reference_u,
-        &offsets,
-    );
-    let vs = plane_table(
-        task,
-        given,
-        origin_v,
-        from_v,
-        to_v,
-        v,
-        reference_v,
-        &offsets,
-    );
+    let at = chroma_offsets(task, given, reference_u);
+    let us = plane_table(task, given, origin_u, from_u, to_u, u, reference_u, &at);
+    let vs = plane_table(task, given, origin_v, from_v, to_v, v, reference_v, &at);
     tables::join(&us, &vs, scale_of(shift))
 }
 

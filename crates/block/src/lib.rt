@@ -240,39 +240,61 @@ fn spot_of(shape: Shape, shift: Sides, moves: bool) -> Spot
 }
 
 // ---- the slots
-fn offset_at(place: Place, x: i32, y: i32) -> i32
+// A plane's offset, by a view of its bytes. What they are doesn't count.
+fn offset_at(bytes: &[u8], place: Place, x: i32, y: i32) -> i32
     requires { ⌜ Addressed place x y ⌝ }
     ensures { λ r. ⌜ r ≡ pel1Of place x y ⌝ }
 {
-    plane::pel1(place, x, y) as i32
+    plane_view::pel1_of(bytes, place, x, y) as i32
 }
 
 // The active slot is written with a place.
-fn filled(planes: Planes, negative: bool, spot: Spot, slots: Slots) -> Slots
+fn filled(
+    luma: &[u8],
+    u: &[u8],
+    v: &[u8],
+    planes: Planes,
+    negative: bool,
+    spot: Spot,
+    slots: Slots,
+) -> Slots
     requires { ⌜ SpotHeld planes negative spot ⌝ }
     ensures { λ r. ⌜ r ≡ filledWith planes negative spot slots ⌝ }
 {
-    let luma = planes.luma;
+    let place_luma = planes.luma;
     let x = spot.x;
     let y = spot.y;
-    let written = slots::after_luma(slots, negative, offset_at(luma, x, y));
+    let written = slots::after_luma(slots, negative, offset_at(luma, place_luma, x, y));
     if negative {
         return written;
     }
-    let u = planes.u;
-    let v = planes.v;
+    let place_u = planes.u;
+    let place_v = planes.v;
     let cx = spot.cx;
     let cy = spot.cy;
-    slots::after_chroma(written, offset_at(u, cx, cy), offset_at(v, cx, cy))
+    slots::after_chroma(
+        written,
+        offset_at(u, place_u, cx, cy),
+        offset_at(v, place_v, cx, cy),
+    )
 }
 
-fn settled(planes: Planes, negative: bool, moves: bool, spot: Spot, slots: Slots) -> Slots
+fn settled(
+    luma: &[u8],
+    u: &[u8],
+    v: &[u8],
+    planes: Planes,
+    negative: bool,
+    moves: bool,
+    spot: Spot,
+    slots: Slots,
+) -> Slots
     requires { ⌜ SpotHeld planes negative spot ⌝ }
     ensures { λ r. ⌜ r ≡ settledAt planes negative moves spot slots ⌝ }
 {
     if moves {
         let switched = slots::to_one(slots);
-        return filled(planes, negative, spot, switched);
+        return filled(luma, u, v, planes, negative, spot, switched);
     }
     slots::inside(slots)
 }
@@ -383,6 +405,9 @@ fn bad_record(
 
 // ---- the three kinds of block
 fn bad_step(
+    luma: &[u8],
+    u: &[u8],
+    v: &[u8],
     planes: Planes,
     shift: Sides,
     block: Block,
@@ -394,17 +419,17 @@ fn bad_step(
     requires { ⌜ SpotHeld planes (shape .negative) (spotOf shift false shape) × SpotHeld planes (shape .negative) (spotOf shift (movesOf shape) shape) ⌝ }
     ensures { λ r. ⌜ r ≡ badStep planes shift block shape lambda slots ⌝ }
 {
-    let luma = planes.luma;
+    let place = planes.luma;
     let negative = shape.negative;
     let own = spot_of(shape, shift, false);
-    let written = filled(planes, negative, own, slots);
+    let written = filled(luma, u, v, planes, negative, own, slots);
     let moves = is_moved(shape);
     let spot = spot_of(shape, shift, moves);
-    let after = settled(planes, negative, moves, spot, written);
+    let after = settled(luma, u, v, planes, negative, moves, spot, written);
     let source = slots::active(after);
     let x = own.x;
     let y = own.y;
-    let average = Offset::At(offset_at(luma, x, y));
+    let average = Offset::At(offset_at(luma, place, x, y));
     let made = bad_record(block, shape, spot, lambda, source, average);
     Step {
         made: made,
@@ -413,16 +438,23 @@ fn bad_step(
 }
 
 // A block that isn't bad, where luma is needed: it writes luma alone, and no slot is switched.
-fn luma_step(luma: Place, block: Block, shape: Shape, lambda: i32, slots: Slots) -> Step
-    requires { ⌜ Addressed luma (shape .across .origin) (shape .down .origin) ⌝ }
-    ensures { λ r. ⌜ r ≡ lumaStep luma block shape lambda slots ⌝ }
+fn luma_step(
+    luma: &[u8],
+    place: Place,
+    block: Block,
+    shape: Shape,
+    lambda: i32,
+    slots: Slots,
+) -> Step
+    requires { ⌜ Addressed place (shape .across .origin) (shape .down .origin) ⌝ }
+    ensures { λ r. ⌜ r ≡ lumaStep place block shape lambda slots ⌝ }
 {
     let negative = shape.negative;
     let across = shape.across;
     let down = shape.down;
     let x = across.origin;
     let y = down.origin;
-    let at = offset_at(luma, x, y);
+    let at = offset_at(luma, place, x, y);
     let after = slots::after_luma(slots, negative, at);
     let made = quiet_record(block, negative, lambda, Offset::At(at));
     Step {
@@ -441,7 +473,7 @@ fn quiet_step(block: Block, negative: bool, lambda: i32, slots: Slots) -> Step
     }
 }
 
-pub fn plan_block(s: Settings, block: Block, slots: Slots) -> Step
+pub fn plan_block(s: Settings, luma: &[u8], u: &[u8], v: &[u8], block: Block, slots: Slots) -> Step
     requires { ⌜ Ready s block ⌝ }
     ensures { λ r. ⌜ r ≡ stepOf s block slots ⌝ }
 {
@@ -454,12 +486,12 @@ pub fn plan_block(s: Settings, block: Block, slots: Slots) -> Step
     let lambda = lambda_of(weights, negative);
     let sad = block.sad;
     if is_bad(weights, negative, sad) {
-        return bad_step(planes, shift, block, shape, lambda, slots);
+        return bad_step(luma, u, v, planes, shift, block, shape, lambda, slots);
     }
     let need_luma = level.need_luma;
     if need_luma {
-        let luma = planes.luma;
-        return luma_step(luma, block, shape, lambda, slots);
+        let place = planes.luma;
+        return luma_step(luma, place, block, shape, lambda, slots);
     }
     quiet_step(block, negative, lambda, slots)
 }

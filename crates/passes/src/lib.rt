@@ -49,14 +49,23 @@ fn block_at(grid: Sides, order: &[i32], vectors: &[i32], i: usize) -> Block
     }
 }
 
-fn turn_at(s: Settings, order: &[i32], vectors: &[i32], i: usize, slots: Slots) -> Turn
+fn turn_at(
+    s: Settings,
+    order: &[i32],
+    vectors: &[i32],
+    luma: &[u8],
+    u: &[u8],
+    v: &[u8],
+    i: usize,
+    slots: Slots,
+) -> Turn
     requires { ⌜ Serves s (now order) (now vectors) i ⌝ }
     ensures { λ r. ⌜ r ≡ turnAt s (now (order .entry)) (now (vectors .entry)) i slots ⌝ }
 {
     let grid = s.grid;
     let index = index_at(grid, order, i);
     let block = block_at(grid, order, vectors, i);
-    let step = block::plan_block(s, block, slots);
+    let step = block::plan_block(s, luma, u, v, block, slots);
     let made = step.made;
     let after = step.slots;
     let fits = records::record_fits(made);
@@ -69,14 +78,23 @@ fn turn_at(s: Settings, order: &[i32], vectors: &[i32], i: usize, slots: Slots) 
     }
 }
 
-pub fn all_fit(s: Settings, order: &[i32], vectors: &[i32], n: usize) -> bool
+// The planes' bytes are those that offsets are told of: none is read.
+pub fn all_fit(
+    s: Settings,
+    order: &[i32],
+    vectors: &[i32],
+    luma: &[u8],
+    u: &[u8],
+    v: &[u8],
+    n: usize,
+) -> bool
     requires { ⌜ Served s (now order) (now vectors) n ⌝ }
     ensures { λ r. ⌜ r ≡ allFit s (now (order .entry)) (now (vectors .entry)) n ⌝ }
 {
     let mut slots = slots::at_start();
     let mut i: usize = 0;
     while i < n {
-        let turn = turn_at(s, order, vectors, i, slots);
+        let turn = turn_at(s, order, vectors, luma, u, v, i, slots);
         let fits = turn.fits;
         if !fits {
             return false;
@@ -134,6 +152,9 @@ pub fn write_all(
     s: Settings,
     order: &[i32],
     vectors: &[i32],
+    luma: &[u8],
+    u: &[u8],
+    v: &[u8],
     n: usize,
     records: &mut [i32],
     indices: &mut [i32],
@@ -146,7 +167,7 @@ pub fn write_all(
     let mut slots = slots::at_start();
     let mut i: usize = 0;
     while i < n {
-        let turn = turn_at(s, order, vectors, i, slots);
+        let turn = turn_at(s, order, vectors, luma, u, v, i, slots);
         let words = turn.words;
         put(records, 12 * i, listed(words));
         let index = turn.index;

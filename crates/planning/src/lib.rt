@@ -226,7 +226,7 @@ fn refusal(
     if !has_room(n, words, indices) {
         return 5;
     }
-    if !passes::all_fit(s, order, vectors, n) {
+    if !passes::all_fit(s, order, vectors, luma, u, v, n) {
         return 6;
     }
     0
@@ -278,6 +278,6 @@ pub fn plan(
     }
     let grid = s.grid;
     let n = count_of(grid);
-    passes::write_all(s, order, vectors, n, records, indices);
+    passes::write_all(s, order, vectors, luma, u, v, n, records, indices);
     Planned::Done(made_of(s))
 }

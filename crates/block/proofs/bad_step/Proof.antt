@@ -18,23 +18,23 @@ use Rattle.block.proofs.bad_step.Statement.{statement}
 use Rattle.block.proofs.bad_step.Tie as tie
 
 spot-of-requires : tie.Need-spot-of-requires
-spot-of-requires c κs = c .before .pre .0
+spot-of-requires c κs = c .before .before .before .before .pre .0
 
 filled-requires : tie.Need-filled-requires
-filled-requires c κs = rw (c .spot-of .ensures) (c .before .before .pre .1 .0)
+filled-requires c κs = rw (c .spot-of .ensures) (c .before .before .before .before .before .pre .1 .0)
 
 is-moved-requires : tie.Need-is-moved-requires
-is-moved-requires c κs = c .before .before .before .pre .0
+is-moved-requires c κs = c .before .before .before .before .before .before .pre .0
 
 spot-of-requires-2 : tie.Need-spot-of-requires-2
-spot-of-requires-2 c κs = c .before .before .before .before .pre .0
+spot-of-requires-2 c κs = c .before .before .before .before .before .before .before .pre .0
 
-spot-is : (c : tie.After-spot-of2) → c .spot-of2 .result ≡ spotOf (c .before .before .before .before .before .args .shift) (movesOf (c .before .before .before .before .before .args .shape)) (c .before .before .before .before .before .args .shape)
-spot-is c = c .spot-of2 .ensures ∙ ap (λ (m : Bool). spotOf (c .before .before .before .before .before .args .shift) m (c .before .before .before .before .before .args .shape)) (c .before .is-moved .ensures)
+spot-is : (c : tie.After-spot-of2) → c .spot-of2 .result ≡ spotOf (c .before .before .before .before .before .before .before .before .args .shift) (movesOf (c .before .before .before .before .before .before .before .before .args .shape)) (c .before .before .before .before .before .before .before .before .args .shape)
+spot-is c = c .spot-of2 .ensures ∙ ap (λ (m : Bool). spotOf (c .before .before .before .before .before .before .before .before .args .shift) m (c .before .before .before .before .before .before .before .before .args .shape)) (c .before .is-moved .ensures)
 
 settled-requires : tie.Need-settled-requires
 settled-requires c κs =
-    let s = (c .before .before .before .before .before) in
+    let s = (c .before .before .before .before .before .before .before .before) in
     subst (SpotHeld (s .args .planes) (s .args .shape .negative)) (sym (spot-is c)) (s .pre .1 .1)
 
 -- what is read of the block's own spot
@@ -49,14 +49,14 @@ offset-at-requires : tie.Need-offset-at-requires
 offset-at-requires c κs =
     let f = own-x c in
     let g = own-y c in
-    simp toZ-ofZ (rw (c .before .before .before .before .before .before .before .spot-of .ensures) (c .before .before .before .before .before .before .before .before .before .pre .1 .0 .luma))
+    simp toZ-ofZ (rw (c .before .before .before .before .before .before .before .spot-of .ensures) (c .before .before .before .before .before .before .before .before .before .before .before .before .pre .1 .0 .luma))
 
 bad-record-requires : tie.Need-bad-record-requires
 bad-record-requires c κs =
-    let s = (c .before .before .before .before .before .before .before .before .before .before) in
+    let s = (c .before .before .before .before .before .before .before .before .before .before .before .before .before) in
     rw (spot-is (c .before .before .before .before .before)) (spot-within (s .pre .0 .0) (s .pre .0 .1) (s .args .shift) (movesOf (s .args .shape)))
 
-at-is : (c : tie.After-offset-at) → toZ w32 (ofZ w32 (c .offset-at .result)) ≡ pel1Of (c .before .before .before .before .before .before .before .before .before .before .args .planes .luma) (c .before .before .before .before .before .before .before .before .spot-of .result .x) (c .before .before .before .before .before .before .before .before .spot-of .result .y)
+at-is : (c : tie.After-offset-at) → toZ w32 (ofZ w32 (c .offset-at .result)) ≡ pel1Of (c .before .before .before .before .before .before .before .before .before .before .before .before .before .args .planes .luma) (c .before .before .before .before .before .before .before .before .spot-of .result .x) (c .before .before .before .before .before .before .before .before .spot-of .result .y)
 at-is c =
     let f = own-x (c .before) in
     let g = own-y (c .before) in
@@ -64,7 +64,7 @@ at-is c =
 
 returns : tie.Need-returns
 returns c =
-    let s = (c .before .before .before .before .before .before .before .before .before .before .before) in
+    let s = (c .before .before .before .before .before .before .before .before .before .before .before .before .before .before) in
     bad-stages (s .args .planes) (s .args .shift) (s .args .block) (s .args .shape) (s .args .lambda) (s .args .slots)
     (c .before .before .before .before .before .before .before .before .before .spot-of .ensures)
     (c .before .before .before .before .before .before .before .before .filled .ensures)

@@ -15,19 +15,19 @@ use Rattle.block.proofs.luma_step.Tie as tie
 
 -- what is read of the two origins
 module _ (c : tie.After-struct-told2) where
-  x-fits : SFits w32 (c .before .before .before .before .args .shape .across .origin)
+  x-fits : SFits w32 (c .before .before .before .before .before .args .shape .across .origin)
   x-fits = record { sfits = c .before .struct-told .given .1 .1 .0 .1 }
 
-  y-fits : SFits w32 (c .before .before .before .before .args .shape .down .origin)
+  y-fits : SFits w32 (c .before .before .before .before .before .args .shape .down .origin)
   y-fits = record { sfits = c .struct-told2 .given .1 .1 .0 .1 }
 
 offset-at-requires : tie.Need-offset-at-requires
 offset-at-requires c κs =
     let f = x-fits c in
     let g = y-fits c in
-    simp toZ-ofZ (c .before .before .before .before .pre)
+    simp toZ-ofZ (c .before .before .before .before .before .pre)
 
-at-is : (c : tie.After-offset-at) → toZ w32 (ofZ w32 (c .offset-at .result)) ≡ pel1Of (c .before .before .before .before .before .args .luma) (c .before .before .before .before .before .args .shape .across .origin) (c .before .before .before .before .before .args .shape .down .origin)
+at-is : (c : tie.After-offset-at) → toZ w32 (ofZ w32 (c .offset-at .result)) ≡ pel1Of (c .before .before .before .before .before .before .args .place) (c .before .before .before .before .before .before .args .shape .across .origin) (c .before .before .before .before .before .before .args .shape .down .origin)
 at-is c =
     let f = x-fits (c .before) in
     let g = y-fits (c .before) in
@@ -35,8 +35,8 @@ at-is c =
 
 returns : tie.Need-returns
 returns c =
-    let s = (c .before .before .before .before .before .before .before) in
-    luma-stages (s .args .luma) (s .args .block) (s .args .shape) (s .args .lambda) (s .args .slots)
+    let s = (c .before .before .before .before .before .before .before .before) in
+    luma-stages (s .args .place) (s .args .block) (s .args .shape) (s .args .lambda) (s .args .slots)
     (at-is (c .before .before))
     (c .before .after-luma .ensures)
     (c .quiet-record .ensures ∙ ap (λ (l : ℤ). quietRecord (s .args .block) (s .args .shape .negative) l (At (toZ w32 (ofZ w32 (c .before .before .offset-at .result))))) (toZ-ofZ (s .fits .lambda)))

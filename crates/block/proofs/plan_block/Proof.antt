@@ -20,7 +20,7 @@ use Rattle.block.proofs.plan_block.Statement.{statement}
 use Rattle.block.proofs.plan_block.Tie as tie
 
 shape-of-requires : tie.Need-shape-of-requires
-shape-of-requires c κs = shaped (c .before .before .before .before .pre)
+shape-of-requires c κs = shaped (c .before .before .before .before .before .before .before .pre)
 
 -- what a bad block's step asks, of the shape that was worked out
 pub record Asks (s : Settings) (h : Shape) : Type 0 where
@@ -37,24 +37,24 @@ asks {s} {b} k e =
 
 bad-step-requires : tie.Need-bad-step-requires
 bad-step-requires c κs =
-    let k = asks (c .before .before .before .before .before .before .before .before .before .pre) (c .before .before .before .before .shape-of .ensures) in
+    let k = asks (c .before .before .before .before .before .before .before .before .before .before .before .before .pre) (c .before .before .before .before .shape-of .ensures) in
     ((k .across, k .down), (k .own, k .there))
 
 luma-step-requires : tie.Need-luma-step-requires
-luma-step-requires c κs = asks (c .before .before .before .before .before .before .before .before .before .before .before .pre) (c .before .before .before .before .before .before .shape-of .ensures) .luma
+luma-step-requires c κs = asks (c .before .before .before .before .before .before .before .before .before .before .before .before .before .before .pre) (c .before .before .before .before .before .before .shape-of .ensures) .luma
 
-lambda-is : (c : tie.After-lambda-of) → toZ w32 (ofZ w32 (c .lambda-of .result)) ≡ lambdaOf (c .before .before .before .before .before .before .args .s .weights) (c .before .shape-of .result .negative)
+lambda-is : (c : tie.After-lambda-of) → toZ w32 (ofZ w32 (c .lambda-of .result)) ≡ lambdaOf (c .before .before .before .before .before .before .before .before .before .args .s .weights) (c .before .shape-of .result .negative)
 lambda-is c = got w32 (c .lambda-of .ok) (c .lambda-of .ensures)
 
 -- the test's outcome, of the block's own SAD
-bad-is : (c : tie.After-is-bad) → c .is-bad .result ≡ isBad (c .before .before .before .before .before .before .before .before .args .s .weights) (c .before .before .before .shape-of .result .negative) (c .before .before .before .before .before .before .before .before .args .block .sad)
+bad-is : (c : tie.After-is-bad) → c .is-bad .result ≡ isBad (c .before .before .before .before .before .before .before .before .before .before .before .args .s .weights) (c .before .before .before .shape-of .result .negative) (c .before .before .before .before .before .before .before .before .before .before .before .args .block .sad)
 bad-is c =
-    let f : SFits w32 (c .before .before .before .before .before .before .before .before .args .block .sad) = record { sfits = c .before .struct-told .given .1 .1 .1 .1 .0 .1 } in
+    let f : SFits w32 (c .before .before .before .before .before .before .before .before .before .before .before .args .block .sad) = record { sfits = c .before .struct-told .given .1 .1 .1 .1 .0 .1 } in
     simp toZ-ofZ at (c .is-bad .ensures)
 
 returns : tie.Need-returns
 returns c =
-    let a = c .before .before .before .before .before .before .before .before .before .before .args in
+    let a = c .before .before .before .before .before .before .before .before .before .before .before .before .before .args in
     let h = c .before .before .before .before .before .shape-of .result in
     let l = toZ w32 (ofZ w32 (c .before .before .before .before .lambda-of .result)) in
     c .bad-step .ensures
@@ -63,7 +63,7 @@ returns c =
 
 returns-2 : tie.Need-returns-2
 returns-2 c =
-    let a = c .before .before .before .before .before .before .before .before .before .before .before .before .args in
+    let a = c .before .before .before .before .before .before .before .before .before .before .before .before .before .before .before .args in
     let h = c .before .before .before .before .before .before .before .shape-of .result in
     let l = toZ w32 (ofZ w32 (c .before .before .before .before .before .before .lambda-of .result)) in
     c .luma-step .ensures
@@ -72,7 +72,7 @@ returns-2 c =
 
 returns-3 : tie.Need-returns-3
 returns-3 c =
-    let a = c .before .before .before .before .before .before .before .before .before .before .before .args in
+    let a = c .before .before .before .before .before .before .before .before .before .before .before .before .before .before .args in
     let h = c .before .before .before .before .before .before .shape-of .result in
     let l = toZ w32 (ofZ w32 (c .before .before .before .before .before .lambda-of .result)) in
     c .quiet-step .ensures
