@@ -39,7 +39,7 @@ pub fn count(least: i32, greatest: i32) -> usize
 }
 
 // The nth number from least on.
-pub fn along(least: i32, n: usize) -> i32
+fn along(least: i32, n: usize) -> i32
     requires { ⌜ Within 32768 32767 least × (n < 65536) ⌝ }
     ensures { λ r. ⌜ r ≡ least +ℤ pos n ⌝ }
 {
@@ -124,7 +124,7 @@ fn plain_sad(luma: u32, chroma: u32) -> i32
 }
 
 // A bad block's choice. A candidate leaves at the first test that it fails, so that dear ones cost little.
-pub fn choose(choice: Choice, luma: &[u32; 50], chroma: &[u32; 50]) -> Chosen
+fn choose(choice: Choice, luma: &[u32; 50], chroma: &[u32; 50]) -> Chosen
     requires { ⌜ Served choice ⌝ }
     requires { ⌜ Small (now luma) × Small (now chroma) ⌝ }
     ensures { λ r. ⌜ r ≡ chosen choice (now (luma .entry)) (now (chroma .entry)) ⌝ }
@@ -170,7 +170,7 @@ pub fn choose(choice: Choice, luma: &[u32; 50], chroma: &[u32; 50]) -> Chosen
     }
 }
 
-pub fn tripled(negative: bool, sad: i32) -> i32
+fn tripled(negative: bool, sad: i32) -> i32
     ensures { λ r. ⌜ r ≡ tripledOf negative sad ⌝ }
 {
     if negative {

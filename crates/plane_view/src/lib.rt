@@ -8,7 +8,7 @@ ghost use Rattle.distance.specs.Distance.{blockOf};
 ghost use Rattle.plane.specs.Places.{keepsLength, pel1Of, subpelOf, Placed};
 ghost use Rattle.plane_view.specs.View.{placeSample, placeCost, Costed};
 
-pub struct PlaneView<'a> {
+struct PlaneView<'a> {
     pub bytes: &'a [u8],
     pub place: Place,
 }
@@ -45,40 +45,40 @@ fn cost_on(
 }
 
 // ---- the view
-pub fn view_of<'a>(bytes: &'a [u8], place: Place) -> PlaneView<'a>
+fn view_of<'a>(bytes: &'a [u8], place: Place) -> PlaneView<'a>
     ensures { λ r. ⌜ (r .bytes ≡ bytes .entry) × (r .place ≡ place) ⌝ }
 {
     PlaneView { bytes, place }
 }
 
-pub fn keeps_length<'a>(view: PlaneView<'a>) -> bool
+fn keeps_length<'a>(view: PlaneView<'a>) -> bool
     ensures { λ r. ⌜ r ≡ keepsLength (view .entry .place) (length (now (view .entry .bytes))) ⌝ }
 {
     length_holds(view.bytes, view.place)
 }
 
-pub fn pel1<'a>(view: PlaneView<'a>, x: i32, y: i32) -> i64
+fn pel1<'a>(view: PlaneView<'a>, x: i32, y: i32) -> i64
     requires { ⌜ Placed (view .place) ⌝ }
     ensures { λ r. ⌜ r ≡ pel1Of (view .entry .place) x y ⌝ }
 {
     plane::pel1(view.place, x, y)
 }
 
-pub fn subpel<'a>(view: PlaneView<'a>, x: i32, y: i32) -> i64
+fn subpel<'a>(view: PlaneView<'a>, x: i32, y: i32) -> i64
     requires { ⌜ Placed (view .place) ⌝ }
     ensures { λ r. ⌜ r ≡ subpelOf (view .entry .place) x y ⌝ }
 {
     plane::subpel(view.place, x, y)
 }
 
-pub fn sample<'a>(view: PlaneView<'a>, x: i32, y: i32) -> u8
+fn sample<'a>(view: PlaneView<'a>, x: i32, y: i32) -> u8
     requires { ⌜ Placed (view .place) ⌝ }
     ensures { λ r. ⌜ r ≡ placeSample (now (view .entry .bytes)) (view .entry .place) x y ⌝ }
 {
     sample_at(view.bytes, view.place, x, y)
 }
 
-pub fn cost<'a, 'b>(
+fn cost<'a, 'b>(
     view: PlaneView<'a>,
     measure: bool,
     w: usize,

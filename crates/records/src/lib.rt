@@ -74,7 +74,7 @@ pub fn third(value: i32) -> i32
     value / 3
 }
 
-pub fn pair_fits(pair: Pair) -> bool
+fn pair_fits(pair: Pair) -> bool
     ensures { λ r. ⌜ r ≡ pairFits pair ⌝ }
 {
     let first = pair.first;
@@ -84,7 +84,7 @@ pub fn pair_fits(pair: Pair) -> bool
 
 // The first part in the low 16 bits, the second in the high 16. Of a part that doesn't fit, its
 // low 16 bits.
-pub fn pair_word(pair: Pair) -> i32
+fn pair_word(pair: Pair) -> i32
     ensures { λ r. ⌜ r ≡ pairWord pair ⌝ }
 {
     let first = pair.first;
@@ -117,7 +117,7 @@ pub fn unpack_pair(word: i32) -> Pair
     }
 }
 
-pub fn offset_fits(offset: Offset) -> bool
+fn offset_fits(offset: Offset) -> bool
     ensures { λ r. ⌜ r ≡ offsetFits offset ⌝ }
 {
     let Offset::At(place) = offset else {
@@ -126,7 +126,7 @@ pub fn offset_fits(offset: Offset) -> bool
     -2147483648 < place
 }
 
-pub fn offset_word(offset: Offset) -> i32
+fn offset_word(offset: Offset) -> i32
     ensures { λ r. ⌜ r ≡ offsetWord offset ⌝ }
 {
     let Offset::At(place) = offset else {
@@ -135,7 +135,7 @@ pub fn offset_word(offset: Offset) -> i32
     place
 }
 
-pub fn offset_of(word: i32) -> Offset
+fn offset_of(word: i32) -> Offset
     ensures { λ r. ⌜ r ≡ offsetOf word ⌝ }
 {
     if -2147483648 < word {

@@ -57,7 +57,7 @@ fn magnitude(n: i64) -> u64
     n as u64
 }
 
-pub fn put_number(line: &mut [u8], at: usize, n: i64) -> usize
+fn put_number(line: &mut [u8], at: usize, n: i64) -> usize
     requires { ⌜ at + length (decimal n) ≤ length (now line) ⌝ }
     ensures { λ r. ⌜ Puts (now (line .entry)) at (decimal n) (now (line .exit)) r ⌝ }
 {

@@ -200,5 +200,5 @@ module _ {M : Type 1} (𝓤 : URA M) where
     pub put-word-same : Same put-word.ended (put-word.clauses 𝓤 H A mem run) (λ κs r e. now (e .0))
     put-word-same κs a g r s e f = one
 
-    pub write-all-same : Same write-all.ended (write-all.clauses 𝓤 H A mem run) (λ κs r e. now (e .1 .1 .1 .1 .0) & now (e .1 .1 .1 .1 .1 .0))
+    pub write-all-same : Same write-all.ended (write-all.clauses 𝓤 H A mem run) (λ κs r e. now (e .1 .1 .1 .1 .1 .1 .1 .0) & now (e .1 .1 .1 .1 .1 .1 .1 .1 .0))
     write-all-same κs a g r s e f = two

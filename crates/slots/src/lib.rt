@@ -151,14 +151,14 @@ fn chroma_in_active(slots: Slots, u: i32, v: i32) -> Slots
 }
 
 // ---- the writes: the record of both slots is changed where it stands
-pub fn write_luma(slots: &mut Slots, negative: bool, offset: i32)
+fn write_luma(slots: &mut Slots, negative: bool, offset: i32)
     ensures { λ _. ⌜ now (slots .exit) ≡ lumaInActive negative offset (now (slots .entry)) ⌝ }
 {
     let before = *slots;
     *slots = luma_in_active(before, negative, offset);
 }
 
-pub fn write_chroma(slots: &mut Slots, u: i32, v: i32)
+fn write_chroma(slots: &mut Slots, u: i32, v: i32)
     ensures { λ _. ⌜ now (slots .exit) ≡ chromaInActive u v (now (slots .entry)) ⌝ }
 {
     let before = *slots;
