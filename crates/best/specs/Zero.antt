@@ -162,7 +162,8 @@ module _ (task : Task) (given : Record) (luma u v referenceLuma referenceU refer
     -- and, between bytes, only there
     module _ (bytes : (n : ℕ) → getD luma n 0 < 256) (reference-bytes : (n : ℕ) → getD referenceLuma n 0 < 256) where
       cost-0 : best .sad ≡ pos 0 → costAt (best .x) (best .y) ≡ 0
-      cost-0 e = tripled-0 (isNegative given) _ _ (luma-most-at task given (known .block-in) luma referenceLuma bytes reference-bytes (best .x) (best .y)) (sym sad-is ∙ e)
+      cost-0 e = tripled-0 (isNegative given) _ _ (luma-most-at task given (known .block-in) luma referenceLuma bytes reference-bytes (best .x) (best .y))
+          (sym sad-is ∙ e)
 
       pub zero-only : best .sad ≡ pos 0 → AgreeAt (best .x) (best .y)
       zero-only e =

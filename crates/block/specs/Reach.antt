@@ -44,14 +44,16 @@ quartered : (z : ℤ) → (P (shrZ z 4) * 4 + N z ≤ P z + N (shrZ z 4) * 4) ×
 quartered z = (floor-low (lit< tt) z, floor-high (lit< tt) z)
 
 -- a place below a count is at most the last one, and so it stays times a step: a block's column, a sample's row
-steps-upto : (place count step : ℤ) → pos 0 ≤ℤ place → place <ℤ count → pos 0 ≤ℤ step → (pos 0 ≤ℤ (place *ℤ step)) × ((place *ℤ step) ≤ℤ ((count -ℤ pos 1) *ℤ step))
+steps-upto : (place count step : ℤ) → pos 0 ≤ℤ place → place <ℤ count → pos 0 ≤ℤ step →
+    (pos 0 ≤ℤ (place *ℤ step)) × ((place *ℤ step) ≤ℤ ((count -ℤ pos 1) *ℤ step))
 steps-upto (pos b) count (pos s) p q r =
     let h : b + N (count -ℤ pos 1) ≤ P (count -ℤ pos 1) = omega (signed, diff-is count (pos 1)) in
     (omega signed, omega (signed, times-is (count -ℤ pos 1) s, mul-le-mul-right s h, add-mul b (N (count -ℤ pos 1)) s))
 steps-upto (pos b) count (negsuc s) p q r = absurd (omega signed)
 steps-upto (negsuc b) count step p q r = absurd (omega signed)
 
-pub origin-inside : {count step side frame place : ℤ} → Along count step side frame place → (negative : Bool) → Inside frame (originOf step side place negative) (sideOf side negative)
+pub origin-inside : {count step side frame place : ℤ} → Along count step side frame place → (negative : Bool) →
+    Inside frame (originOf step side place negative) (sideOf side negative)
 origin-inside {count} {step} {side} {frame} {place} k true =
     let m = steps-upto place count step (k .first) (k .last) (omega signed) in
     let u = place *ℤ step in
@@ -86,7 +88,13 @@ clamped-inside {frame} {at} {side} z k =
     let up : pos 0 ≤ℤ raised = by-test (ltZ z (pos 0)) (pos 0) z (λ y. pos 0 ≤ℤ y) (λ w. omega signed) (λ w. omega signed) in
     by-test (ltZ raised (frame -ℤ side)) raised (frame -ℤ side) (λ y. Inside frame y side)
     (λ w. record { from = up; to = omega (signed, d, add-is raised side); side-least = k .side-least; side-most = k .side-most; frame-most = k .frame-most })
-    (λ w. record { from = omega (signed, d, t); to = omega (signed, d, add-is (frame -ℤ side) side); side-least = k .side-least; side-most = k .side-most; frame-most = k .frame-most })
+    (λ w. record {
+      from = omega (signed, d, t);
+      to = omega (signed, d, add-is (frame -ℤ side) side);
+      side-least = k .side-least;
+      side-most = k .side-most;
+      frame-most = k .frame-most;
+    })
 
 abbrev Stands : Axis → Type 0
 Stands a = Inside (a .frame) (a .origin) (a .side)
@@ -104,7 +112,8 @@ pub record Before (size at : ℤ) : Type 0 where
 pub inside-before : {frame at side : ℤ} → Inside frame at side → Before frame at
 inside-before {frame} {at} {side} k = record { from = k .from; to = omega (signed, add-is at side) }
 
-pub chroma-before : {frame at side place : ℤ} (s : ℤ) → Inside frame at side → Inside frame place side → pos 8 ≤ℤ side → Before (shiftedBy frame s) (chromaPlace at place s)
+pub chroma-before : {frame at side place : ℤ} (s : ℤ) → Inside frame at side → Inside frame place side → pos 8 ≤ℤ side →
+    Before (shiftedBy frame s) (chromaPlace at place s)
 unfolding chromaPlace
 chroma-before {frame} {at} {side} {place} s k j l =
     by (ltZ s (pos 1))
@@ -208,11 +217,18 @@ module _ {s : Settings} {b : Block} (k : Ready s b) where
   pub spot-held : (moves : Bool) → SpotHeld (s .planes) (shapeOf s b .negative) (spotOf (s .shift) moves (shapeOf s b))
   unfolding spotOf
   spot-held moves =
-      let x = subst (λ (z : ℤ). Before z (placeOf moves (shapeOf s b .across))) frame-across (inside-before (place-inside (shapeOf s b .across) across-inside moves)) in
+      let x = subst (λ (z : ℤ). Before z (placeOf moves (shapeOf s b .across))) frame-across
+      (inside-before (place-inside (shapeOf s b .across) across-inside moves)) in
       let y = subst (λ (z : ℤ). Before z (placeOf moves (shapeOf s b .down))) frame-down (inside-before (place-inside (shapeOf s b .down) down-inside moves)) in
-      let cx : shapeOf s b .negative ≡ false → Before (shiftedBy (s .planes .luma .width) (s .shift .x)) (chromaPlace (shapeOf s b .across .origin) (placeOf moves (shapeOf s b .across)) (s .shift .x)) = λ e. subst (λ (z : ℤ). Before (shiftedBy z (s .shift .x)) (chromaPlace (shapeOf s b .across .origin) (placeOf moves (shapeOf s b .across)) (s .shift .x))) frame-across
+      let cx : shapeOf s b .negative ≡ false → Before (shiftedBy (s .planes .luma .width) (s .shift .x))
+      (chromaPlace (shapeOf s b .across .origin) (placeOf moves (shapeOf s b .across)) (s .shift .x)) =
+      λ e. subst (λ (z : ℤ). Before (shiftedBy z (s .shift .x)) (chromaPlace (shapeOf s b .across .origin) (placeOf moves (shapeOf s b .across))
+      (s .shift .x))) frame-across
       (chroma-before (s .shift .x) across-inside (place-inside (shapeOf s b .across) across-inside moves) (across-plain e)) in
-      let cy : shapeOf s b .negative ≡ false → Before (shiftedBy (s .planes .luma .height) (s .shift .y)) (chromaPlace (shapeOf s b .down .origin) (placeOf moves (shapeOf s b .down)) (s .shift .y)) = λ e. subst (λ (z : ℤ). Before (shiftedBy z (s .shift .y)) (chromaPlace (shapeOf s b .down .origin) (placeOf moves (shapeOf s b .down)) (s .shift .y))) frame-down
+      let cy : shapeOf s b .negative ≡ false → Before (shiftedBy (s .planes .luma .height) (s .shift .y))
+      (chromaPlace (shapeOf s b .down .origin) (placeOf moves (shapeOf s b .down)) (s .shift .y)) =
+      λ e. subst (λ (z : ℤ). Before (shiftedBy z (s .shift .y)) (chromaPlace (shapeOf s b .down .origin) (placeOf moves (shapeOf s b .down))
+      (s .shift .y))) frame-down
       (chroma-before (s .shift .y) down-inside (place-inside (shapeOf s b .down) down-inside moves) (down-plain e)) in
       record {
         luma = addressed (k .luma) x y;

@@ -14,7 +14,31 @@ use Rattle.whole.specs.Signed.{signed, add-is, diff-is, abs-is}
 use Rattle.whole.specs.Interval.{Within}
 use Rattle.choosing.specs.declared.Choice.{Choice}
 use Rattle.choosing.specs.declared.Chosen.{Chosen}
-use Rattle.choosing.specs.Choosing.{Walk, countOf, columnsOf, rowsOf, slotOf, lumaColumn, lumaOf, chromaOf, afterDistance, afterLuma, afterChroma, advanced, restarted, taken, candidate, alongRow, alongRows, plainSad, start, answerOf, chosen, predictorWith, selected}
+use Rattle.choosing.specs.Choosing.{
+  Walk,
+  countOf,
+  columnsOf,
+  rowsOf,
+  slotOf,
+  lumaColumn,
+  lumaOf,
+  chromaOf,
+  afterDistance,
+  afterLuma,
+  afterChroma,
+  advanced,
+  restarted,
+  taken,
+  candidate,
+  alongRow,
+  alongRows,
+  plainSad,
+  start,
+  answerOf,
+  chosen,
+  predictorWith,
+  selected,
+}
 use Rattle.choosing.specs.Bounds.{Small, Ranged}
 
 by-test : (t : Bool) (a b : Walk) (Q : Walk → Type 0) → (t ≡ true → Q a) → (t ≡ false → Q b) → Q (cond t a b)
@@ -37,7 +61,8 @@ module _ (k : Choice) (luma chroma : List ℕ) where
         by-test _ _ _ Q far (λ a. by-test _ _ _ Q (near a) (λ b. by-test _ _ _ Q (full a b) (take a b)))
 
   -- what every candidate of the window and every restart keep, the walk keeps
-  module _ (Q : Walk → Type 0) (each : (j i : ℕ) (s : Walk) → j < rowsOf k → i < columnsOf k → Q s → Q (candidate k luma chroma j i s)) (again : (s : Walk) → Q s → Q (restarted s)) where
+  module _ (Q : Walk → Type 0) (each : (j i : ℕ) (s : Walk) → j < rowsOf k → i < columnsOf k → Q s → Q (candidate k luma chroma j i s))
+      (again : (s : Walk) → Q s → Q (restarted s)) where
     kept-along : (j n : ℕ) (s : Walk) → j < rowsOf k → n ≤ columnsOf k → Q s → Q (alongRow k luma chroma j n s)
     unfolding alongRow
     kept-along j zero s a b q = q
@@ -131,7 +156,8 @@ pub counted-between : (least greatest : ℤ) (n : ℕ) → n < countOf least gre
 unfolding countOf
 counted-between least greatest n h = by-order (leZ least greatest) least greatest n refl h
 
-between : (least greatest : ℤ) {z : ℤ} (n : ℕ) → Within 32768 32767 least → Within 32768 32767 greatest → z ≡ least +ℤ pos n → n < countOf least greatest → Within 32768 32767 z
+between : (least greatest : ℤ) {z : ℤ} (n : ℕ) → Within 32768 32767 least → Within 32768 32767 greatest → z ≡ least +ℤ pos n → n < countOf least greatest →
+    Within 32768 32767 z
 between least greatest n a b e h = let reach = counted-between least greatest n h in omega (signed, reach .0, reach .1)
 
 -- so the vector fits i16 where the predictor and the window do, and finishing never answers 7 for it

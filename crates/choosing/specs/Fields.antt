@@ -1,4 +1,5 @@
--- A field that fits i16 is read back as it was stored: so what is asked of it holds, and what is worked out from it is worked out from the field. Assumes nothing.
+-- A field that fits i16 is read back as it was stored: so what is asked of it holds, and what is worked out from it is worked out from the field. Assumes
+-- nothing.
 use mathlib.Core.Path.{_≡_}
 use Prim.Native.Nat.{ℕ}
 use lib.IntN.{ℤ, pos, _+ℤ_}

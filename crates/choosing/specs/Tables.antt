@@ -16,13 +16,15 @@ zero-at : (slot : ℕ) → getD {A = ℕ} (replicate 50 0) slot 0 ≡ 0
 zero-at slot =
     ⊎-elim
     (λ (l : slot < 50). getD-replicate {A = ℕ} 50 slot 0 0 l)
-    (λ (l : 50 ≤ slot). let past : length {A = ℕ} (replicate 50 0) ≤ slot = omega (arith, length-replicate {A = ℕ} 50 0) in List·getD-eq-default {A = ℕ} (replicate 50 0) 0 past)
+    (λ (l : 50 ≤ slot). let past : length {A = ℕ} (replicate 50 0) ≤ slot = omega (arith, length-replicate {A = ℕ} 50 0) in
+    List·getD-eq-default {A = ℕ} (replicate 50 0) 0 past)
     (lt-or-ge slot 50)
 
 pub zeros-small : Small (replicate 50 0)
 zeros-small = record { below = λ slot. omega (arith, zero-at slot) }
 
-by-slot : (t : Bool) (table : List ℕ) (at cost slot : ℕ) → eqb slot at ≡ t → Small table → at < length table → cost < 1048576 → getD (set table at cost) slot 0 < 1048576
+by-slot : (t : Bool) (table : List ℕ) (at cost slot : ℕ) → eqb slot at ≡ t → Small table → at < length table → cost < 1048576 →
+    getD (set table at cost) slot 0 < 1048576
 by-slot true table at cost slot e small inside below =
     let here = eqb-true slot at e in rw here (omega (arith, getD-set-same table at cost 0 inside))
 by-slot false table at cost slot e small inside below =

@@ -50,7 +50,8 @@ pub record Corner (a b s g : ℕ) : Type 0 where
   pub long : s ≡ a + b
   pub short : g ≡ gap a b
 
-pub corner : (x y : ℤ) (R : ℕ → ℕ → Type 0) → ((s g : ℕ) → Corner (natAbs x) (natAbs y) s g → R s g) → ((s g : ℕ) → Corner (natAbs x) (natAbs y) s g → R g s) → R (natAbs (x +ℤ y)) (natAbs (x -ℤ y))
+pub corner : (x y : ℤ) (R : ℕ → ℕ → Type 0) → ((s g : ℕ) → Corner (natAbs x) (natAbs y) s g → R s g) → ((s g : ℕ) → Corner (natAbs x) (natAbs y) s g → R g s) →
+    R (natAbs (x +ℤ y)) (natAbs (x -ℤ y))
 corner x y R f g = go x y f g
   where
     split : (x y : ℤ) → natAbs (x +ℤ y) ≡ (P x + P y - (N x + N y)) + (N x + N y - (P x + P y))
@@ -59,7 +60,8 @@ corner x y R f g = go x y f g
     less : (x y : ℤ) → natAbs (x -ℤ y) ≡ (P x + N y - (N x + P y)) + (N x + P y - (P x + N y))
     less x y = omega (arith, abs-is (x -ℤ y), diff-is x y)
 
-    go : (x y : ℤ) → ((s g : ℕ) → Corner (natAbs x) (natAbs y) s g → R s g) → ((s g : ℕ) → Corner (natAbs x) (natAbs y) s g → R g s) → R (natAbs (x +ℤ y)) (natAbs (x -ℤ y))
+    go : (x y : ℤ) → ((s g : ℕ) → Corner (natAbs x) (natAbs y) s g → R s g) → ((s g : ℕ) → Corner (natAbs x) (natAbs y) s g → R g s) →
+        R (natAbs (x +ℤ y)) (natAbs (x -ℤ y))
     go (pos a) (pos b) f g = f _ _ (record { long = omega (arith, split (pos a) (pos b)); short = omega (arith, less (pos a) (pos b)) })
     go (pos a) (negsuc b) f g = g _ _ (record { long = omega (arith, less (pos a) (negsuc b)); short = omega (arith, split (pos a) (negsuc b)) })
     go (negsuc a) (pos b) f g = g _ _ (record { long = omega (arith, less (negsuc a) (pos b)); short = omega (arith, split (negsuc a) (pos b)) })

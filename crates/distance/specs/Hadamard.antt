@@ -113,8 +113,17 @@ module _ (v : ℕ → ℤ) where
   along-above : sum 4 (λ k. natAbs (v k)) ≤ sum 4 (λ i. natAbs (along v i))
   unfolding sum
   along-above =
-      omega
-      (arith, ap natAbs along0, ap natAbs along1, ap natAbs along2, ap natAbs along3, abs-back (v 0 +ℤ v 1) (v 2 +ℤ v 3), abs-back (v 0 -ℤ v 1) (v 2 -ℤ v 3), abs-back (v 0) (v 1), abs-back (v 2) (v 3))
+      omega (
+        arith,
+        ap natAbs along0,
+        ap natAbs along1,
+        ap natAbs along2,
+        ap natAbs along3,
+        abs-back (v 0 +ℤ v 1) (v 2 +ℤ v 3),
+        abs-back (v 0 -ℤ v 1) (v 2 -ℤ v 3),
+        abs-back (v 0) (v 1),
+        abs-back (v 2) (v 3),
+      )
 
   -- the squares of the four values are four times the numbers' squares
   along-squares : sum 4 (λ i. square (natAbs (along v i))) ≡ 4 * sum 4 (λ k. square (natAbs (v k)))
@@ -127,7 +136,8 @@ module _ (v : ℕ → ℤ) where
   -- the values of numbers that all take a sign, and of sums
   along-sign : (s : Sign) {w : ℕ → ℤ} (i : ℕ) → ((k : ℕ) → w k ≡ unit s *ℤ v k) → along w i ≡ unit s *ℤ along v i
   along-sign s i e =
-      sumZ-eq 4 (λ k l. ap (λ (z : ℤ). sign i k *ℤ z) (e k) ∙ sym (sign-times (at i k) s (v k)) ∙ ap (λ (z : ℤ). z *ℤ v k) (*ℤ-comm (sign i k) (unit s)) ∙ sign-times s (at i k) (v k))
+      sumZ-eq 4 (λ k l. ap (λ (z : ℤ). sign i k *ℤ z) (e k) ∙ sym (sign-times (at i k) s (v k)) ∙ ap (λ (z : ℤ). z *ℤ v k) (*ℤ-comm (sign i k) (unit s))
+      ∙ sign-times s (at i k) (v k))
       ∙ sign-sum s 4 (λ k. sign i k *ℤ v k)
 
 along-adds : (u v : ℕ → ℤ) {w : ℕ → ℤ} (i : ℕ) → ((k : ℕ) → w k ≡ u k +ℤ v k) → along w i ≡ along u i +ℤ along v i
@@ -152,7 +162,8 @@ module _ (d : ℕ → ℕ → ℤ) (i j : ℕ) where
   unfolding hadamardAt
   columns-first =
       sumZ-swap 4 4 (λ y x. (sign i y *ℤ sign j x) *ℤ d y x)
-      ∙ sumZ-eq 4 (λ x m. sumZ-eq 4 (λ y l. ap (λ (z : ℤ). z *ℤ d y x) (*ℤ-comm (sign i y) (sign j x)) ∙ sign-times (at j x) (at i y) (d y x)) ∙ sign-sum (at j x) 4 (λ y. sign i y *ℤ d y x))
+      ∙ sumZ-eq 4 (λ x m. sumZ-eq 4 (λ y l. ap (λ (z : ℤ). z *ℤ d y x) (*ℤ-comm (sign i y) (sign j x)) ∙ sign-times (at j x) (at i y) (d y x))
+      ∙ sign-sum (at j x) 4 (λ y. sign i y *ℤ d y x))
 
   value-below : natAbs (hadamardAt d i j) ≤ plain d
   value-below =
@@ -173,7 +184,8 @@ module _ (d : ℕ → ℕ → ℤ) where
   pub tile-even : tileSum d % 2 ≡ 0
   unfolding tileSum sum
   tile-even =
-      let row : (i : ℕ) → sum 4 (λ j. natAbs (hadamardAt d i j)) % 2 ≡ 0 = λ i. omega (arith, value-odd d i 0, value-odd d i 1, value-odd d i 2, value-odd d i 3) in
+      let row : (i : ℕ) → sum 4 (λ j. natAbs (hadamardAt d i j)) % 2 ≡ 0 =
+      λ i. omega (arith, value-odd d i 0, value-odd d i 1, value-odd d i 2, value-odd d i 3) in
       omega (arith, row 0, row 1, row 2, row 3)
 
   pub tile-below : tileSum d ≤ 16 * plain d
@@ -185,15 +197,24 @@ module _ (d : ℕ → ℕ → ℤ) where
   unfolding tileSum
   tile-above =
       let rows : plain d ≤ sum 4 (λ y. sum 4 (λ j. natAbs (along (d y) j))) = sum-le 4 (λ y l. along-above (d y)) in
-      let columns : sum 4 (λ j. sum 4 (λ y. natAbs (along (d y) j))) ≤ sum 4 (λ j. sum 4 (λ i. natAbs (along (λ y. along (d y) j) i))) = sum-le 4 (λ j l. along-above (λ y. along (d y) j)) in
+      let columns : sum 4 (λ j. sum 4 (λ y. natAbs (along (d y) j))) ≤ sum 4 (λ j. sum 4 (λ i. natAbs (along (λ y. along (d y) j) i))) =
+      sum-le 4 (λ j l. along-above (λ y. along (d y) j)) in
       omega (arith, by-columns natAbs d, sum-swap 4 4 (λ (y : ℕ) (j : ℕ). natAbs (along (d y) j)))
 
   tile-squares : sum 4 (λ i. sum 4 (λ j. square (natAbs (hadamardAt d i j)))) ≡ 16 * sum 4 (λ y. sum 4 (λ x. square (natAbs (d y x))))
   tile-squares =
-      let columns : sum 4 (λ j. sum 4 (λ i. square (natAbs (along (λ y. along (d y) j) i)))) ≡ sum 4 (λ j. 4 * sum 4 (λ y. square (natAbs (along (d y) j)))) = sum-eq 4 (λ j l. along-squares (λ y. along (d y) j)) in
-      let rows : sum 4 (λ y. sum 4 (λ j. square (natAbs (along (d y) j)))) ≡ sum 4 (λ y. 4 * sum 4 (λ x. square (natAbs (d y x)))) = sum-eq 4 (λ y l. along-squares (d y)) in
-      omega
-      (arith, by-columns (λ (z : ℤ). square (natAbs z)) d, sum-times 4 4 (λ (j : ℕ). sum 4 (λ (y : ℕ). square (natAbs (along (d y) j)))), sum-swap 4 4 (λ (y : ℕ) (j : ℕ). square (natAbs (along (d y) j))), sum-times 4 4 (λ (y : ℕ). sum 4 (λ (x : ℕ). square (natAbs (d y x)))))
+      let columns : sum 4 (λ j. sum 4 (λ i. square (natAbs (along (λ y. along (d y) j) i)))) ≡ sum 4 (λ j. 4 * sum 4 (λ y. square (natAbs (along (d y) j)))) =
+      sum-eq 4 (λ j l. along-squares (λ y. along (d y) j)) in
+      let rows : sum 4 (λ y. sum 4 (λ j. square (natAbs (along (d y) j)))) ≡ sum 4 (λ y. 4 * sum 4 (λ x. square (natAbs (d y x)))) =
+      sum-eq 4 (λ y l. along-squares (d y)) in
+      omega (
+        arith,
+        by-columns (λ (z : ℤ). square (natAbs z)) d,
+        sum-times 4 4 (λ (j : ℕ). sum 4 (λ (y : ℕ). square (natAbs (along (d y) j)))),
+        sum-swap 4 4
+            (λ (y : ℕ) (j : ℕ). square (natAbs (along (d y) j))),
+        sum-times 4 4 (λ (y : ℕ). sum 4 (λ (x : ℕ). square (natAbs (d y x)))),
+      )
 
 -- 2 x 1,020 x v is at most v squared + 1,020 squared, since what lies between them is the square of v - 1,020. Where the sum of a tile's
 -- values is greatest each of them is 1,020, that is 4 x 255.
@@ -210,7 +231,15 @@ module _ (d : ℕ → ℕ → ℤ) where
   means : 2040 * tileSum d ≤ sum 4 (λ i. sum 4 (λ j. square (natAbs (hadamardAt d i j)))) + 16646400
   unfolding tileSum sum
   means =
-      let row : (i : ℕ) → 2040 * sum 4 (λ j. natAbs (hadamardAt d i j)) ≤ sum 4 (λ j. square (natAbs (hadamardAt d i j))) + 4161600 = λ i. omega (arith, mean (natAbs (hadamardAt d i 0)), mean (natAbs (hadamardAt d i 1)), mean (natAbs (hadamardAt d i 2)), mean (natAbs (hadamardAt d i 3))) in
+      let row : (i : ℕ) → 2040 * sum 4 (λ j. natAbs (hadamardAt d i j)) ≤ sum 4 (λ j. square (natAbs (hadamardAt d i j))) + 4161600 =
+      λ i. omega (
+        arith,
+        mean (natAbs (hadamardAt d i 0)),
+        mean (natAbs (hadamardAt d i 1)),
+        mean (natAbs (hadamardAt d i 2)),
+        mean
+            (natAbs (hadamardAt d i 3)),
+      ) in
       omega (arith, row 0, row 1, row 2, row 3)
 
   -- Of differences that are at most 255 the sixteen squares are at most 16 x 16 x 255 squared, and so the values at most 64 x 255.

@@ -64,7 +64,8 @@ module _ (m n : ℕ) (a b : Block) where
   -- the tiles' sum is even, so that halving it is exact
   tiles-even : tiles m n a b % 2 ≡ 0
   tiles-even =
-      sum-even n (λ i. sum m (λ j. tileSum (differ a b (4 * i) (4 * j)))) (λ i. sum-even m (λ j. tileSum (differ a b (4 * i) (4 * j))) (λ j. tile-even (differ a b (4 * i) (4 * j))))
+      sum-even n (λ i. sum m (λ j. tileSum (differ a b (4 * i) (4 * j))))
+      (λ i. sum-even m (λ j. tileSum (differ a b (4 * i) (4 * j))) (λ j. tile-even (differ a b (4 * i) (4 * j))))
 
   satd-twice : 2 * satd (4 * m) (4 * n) a b ≡ tiles m n a b
   satd-twice =
@@ -95,7 +96,8 @@ module _ (m n : ℕ) (a b : Block) where
 
   tiles-symmetric : tiles m n a b ≡ tiles m n b a
   tiles-symmetric =
-      sum-eq n (λ i l. sum-eq m (λ j k. tile-turns (differ b a (4 * i) (4 * j)) (differ a b (4 * i) (4 * j)) (λ y x. diff-turns (a (4 * i + y) (4 * j + x)) (b (4 * i + y) (4 * j + x)))))
+      sum-eq n (λ i l. sum-eq m (λ j k. tile-turns (differ b a (4 * i) (4 * j)) (differ a b (4 * i) (4 * j))
+      (λ y x. diff-turns (a (4 * i + y) (4 * j + x)) (b (4 * i + y) (4 * j + x)))))
 
 pub satd-symmetric : (m n : ℕ) (a b : Block) → satd (4 * m) (4 * n) a b ≡ satd (4 * m) (4 * n) b a
 satd-symmetric m n a b = omega (arith, satd-twice m n a b, satd-twice m n b a, tiles-symmetric m n a b)
@@ -104,7 +106,8 @@ tiles-triangle : (m n : ℕ) (a b c : Block) → tiles m n a c ≤ tiles m n a b
 tiles-triangle m n a b c =
     rw (← sum-add)
     (sum-le n (λ i l. rw (← sum-add)
-    (sum-le m (λ j k. tile-adds (differ a b (4 * i) (4 * j)) (differ b c (4 * i) (4 * j)) (differ a c (4 * i) (4 * j)) (λ y x. diff-adds (a (4 * i + y) (4 * j + x)) (b (4 * i + y) (4 * j + x)) (c (4 * i + y) (4 * j + x)))))))
+    (sum-le m (λ j k. tile-adds (differ a b (4 * i) (4 * j)) (differ b c (4 * i) (4 * j)) (differ a c (4 * i) (4 * j))
+    (λ y x. diff-adds (a (4 * i + y) (4 * j + x)) (b (4 * i + y) (4 * j + x)) (c (4 * i + y) (4 * j + x)))))))
 
 pub satd-triangle : (m n : ℕ) (a b c : Block) → satd (4 * m) (4 * n) a c ≤ satd (4 * m) (4 * n) a b + satd (4 * m) (4 * n) b c
 satd-triangle m n a b c = omega (arith, satd-twice m n a b, satd-twice m n b c, satd-twice m n a c, tiles-triangle m n a b c)
@@ -138,4 +141,9 @@ pub record Distance (w h : ℕ) (d : Block → Block → ℕ) : Type 0 where
 pub cost-distance : (measure : Bool) (m n : ℕ) → Distance (4 * m) (4 * n) (costOf measure (4 * m) (4 * n))
 cost-distance true m n = record { agree = satd-agree m n; zero-only = satd-zero m n; symmetric = satd-symmetric m n; triangle = satd-triangle m n }
 cost-distance false m n =
-    record { agree = sad-agree (4 * m) (4 * n); zero-only = sad-zero (4 * m) (4 * n); symmetric = sad-symmetric (4 * m) (4 * n); triangle = sad-triangle (4 * m) (4 * n) }
+    record {
+      agree = sad-agree (4 * m) (4 * n);
+      zero-only = sad-zero (4 * m) (4 * n);
+      symmetric = sad-symmetric (4 * m) (4 * n);
+      triangle = sad-triangle (4 * m) (4 * n);
+    }

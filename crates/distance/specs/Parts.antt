@@ -1,5 +1,5 @@
--- What the parts of the code answer (01, "Evaluating and choosing": SAD and SATD), in the terms of Distance: the gaps of two rows, and a tile as four rows of four numbers, which is
--- turned by butterflies. That this gives the Hadamard values is in Butterflies.
+-- What the parts of the code answer (01, "Evaluating and choosing": SAD and SATD), in the terms of Distance: the gaps of two rows, and a tile as four rows of
+-- four numbers, which is turned by butterflies. That this gives the Hadamard values is in Butterflies.
 use mathlib.Core.List.{List}
 use Prim.Native.Nat.{ℕ, zero, suc, _+_, _*_}
 use lib.IntN.{ℤ, pos, _+ℤ_, _-ℤ_, natAbs}
@@ -69,7 +69,12 @@ rowPlain q = sum 4 (λ x. natAbs (pick q x))
 -- ---- differences of the samples from i in s and from k in t: of four, of a tile, and of m tiles side by side
 abbrev pub rowLess : List ℕ → ℕ → List ℕ → ℕ → Quad
 rowLess s i t k =
-    record { a = pos (getD s i 0) -ℤ pos (getD t k 0); b = pos (getD s (i + 1) 0) -ℤ pos (getD t (k + 1) 0); c = pos (getD s (i + 2) 0) -ℤ pos (getD t (k + 2) 0); d = pos (getD s (i + 3) 0) -ℤ pos (getD t (k + 3) 0) }
+    record {
+      a = pos (getD s i 0) -ℤ pos (getD t k 0);
+      b = pos (getD s (i + 1) 0) -ℤ pos (getD t (k + 1) 0);
+      c = pos (getD s (i + 2) 0) -ℤ pos (getD t (k + 2) 0);
+      d = pos (getD s (i + 3) 0) -ℤ pos (getD t (k + 3) 0);
+    }
 
 abbrev pub tileLess : List ℕ → ℕ → ℕ → List ℕ → ℕ → ℕ → ℕ → ℕ → ℤ
 tileLess s i p t k q y x = pos (getD s (i + y * p + x) 0) -ℤ pos (getD t (k + y * q + x) 0)

@@ -45,5 +45,6 @@ module _ (s : List ℕ) (i p : ℕ) where
   tail-block y x =
       ⊎-elim
       (λ l. getD-take (length s - i) (drop i s) (y * p + x) 0 l ∙ getD-drop i s (y * p + x) 0)
-      (λ (l : length s - i ≤ y * p + x). List·getD-eq-default (take (length s - i) (drop i s)) 0 (simp (length-take, length-drop) (omega arith)) ∙ sym (List·getD-eq-default s 0 (omega arith)))
+      (λ (l : length s - i ≤ y * p + x). List·getD-eq-default (take (length s - i) (drop i s)) 0 (simp (length-take, length-drop) (omega arith))
+      ∙ sym (List·getD-eq-default s 0 (omega arith)))
       (lt-or-ge (y * p + x) (length s - i))

@@ -64,7 +64,8 @@ count-of-side : (p : Pair) → 0 < countOf (p .first) (p .second) → (pos 1 ≤
 unfolding countOf
 count-of-side p h = by (leZ (p .first) (p .second)) refl h
   where
-    by : (t : Bool) → leZ (p .first) (p .second) ≡ t → 0 < cond t (natAbs (sideOf p)) 0 → (pos 1 ≤ℤ sideOf p) × (P (sideOf p) ≡ cond t (natAbs (sideOf p)) 0 + N (sideOf p))
+    by : (t : Bool) → leZ (p .first) (p .second) ≡ t → 0 < cond t (natAbs (sideOf p)) 0 →
+        (pos 1 ≤ℤ sideOf p) × (P (sideOf p) ≡ cond t (natAbs (sideOf p)) 0 + N (sideOf p))
     by true e l =
         let d = diff-is (p .second) (p .first) in
         let s = add-is (p .second -ℤ p .first) (pos 1) in
@@ -91,7 +92,8 @@ narrow most x y w e a b =
 most-within : (radius : ℤ) → Within 0 3 radius → Within 0 7 (mostOf radius)
 most-within radius w = let low = w .low in let high = w .high in omega (signed, times-is radius 2, add-is (radius *ℤ pos 2) (pos 1))
 
-not-wide : (radius : ℤ) (r : Record) → isWide radius r ≡ false → isBad r ≡ true → windowWide (mostOf radius) (sideOf (r .«window_x»)) (sideOf (r .«window_y»)) ≡ false
+not-wide : (radius : ℤ) (r : Record) → isWide radius r ≡ false → isBad r ≡ true →
+    windowWide (mostOf radius) (sideOf (r .«window_x»)) (sideOf (r .«window_y»)) ≡ false
 unfolding isWide
 not-wide radius r e b = rw b at e
 
@@ -113,7 +115,8 @@ narrowed task radius r w e b =
 placed-of : (p : Place) (n : ℕ) {width height : ℤ} → limitsHold p ≡ true → keepsLength p n ≡ true → p .width ≡ width → p .height ≡ height →
     pos 1 ≤ℤ width → pos 1 ≤ℤ height → height ≤ℤ pos 16384 → Placed p
 placed-of p n {width} {height} limits kept w h wide tall low =
-    accepted-placed p n limits kept (subst (λ (z : ℤ). pos 1 ≤ℤ z) (sym w) wide) (subst (λ (z : ℤ). pos 1 ≤ℤ z) (sym h) tall) (subst (λ (z : ℤ). z ≤ℤ pos 16384) (sym h) low)
+    accepted-placed p n limits kept (subst (λ (z : ℤ). pos 1 ≤ℤ z) (sym w) wide) (subst (λ (z : ℤ). pos 1 ≤ℤ z) (sym h) tall)
+    (subst (λ (z : ℤ). z ≤ℤ pos 16384) (sym h) low)
 
 -- a plane's two sides lie where luma's or chroma's do
 record Sized (p : Place) : Type 0 where
@@ -121,7 +124,8 @@ record Sized (p : Place) : Type 0 where
   tall : pos 1 ≤ℤ p .height
   low : p .height ≤ℤ pos 16384
 
-chroma-sized : (luma : Place) (shift : Sides) (p : Place) → pos 2 ≤ℤ luma .width → luma .width ≤ℤ pos 16384 → pos 2 ≤ℤ luma .height → luma .height ≤ℤ pos 16384 → chromaHolds luma shift p ≡ true → Sized p
+chroma-sized : (luma : Place) (shift : Sides) (p : Place) → pos 2 ≤ℤ luma .width → luma .width ≤ℤ pos 16384 → pos 2 ≤ℤ luma .height →
+    luma .height ≤ℤ pos 16384 → chromaHolds luma shift p ≡ true → Sized p
 unfolding chromaHolds
 chroma-sized luma shift p a b c d e =
     let cw = shiftedBy (luma .width) (shift .x) in
@@ -132,11 +136,14 @@ chroma-sized luma shift p a b c d e =
     let height-is = same-is ch (p .height) (right-of (same cw (p .width)) (same ch (p .height)) e) in
     record { wide = rw width-is (w .0); tall = rw height-is (h .0); low = rw height-is (h .1) }
 
-reference-placed : (pel : ℤ) (source reference : Place) (n : ℕ) → Sized source → referenceHolds pel source reference ≡ true → keepsLength reference n ≡ true → Placed reference
+reference-placed : (pel : ℤ) (source reference : Place) (n : ℕ) → Sized source → referenceHolds pel source reference ≡ true → keepsLength reference n ≡ true →
+    Placed reference
 unfolding referenceHolds
 reference-placed pel source reference n s e kept =
-    let t = four-of (limitsHold reference) (same (source .width) (reference .width)) (same (source .height) (reference .height)) (same pel (reference .pel)) e in
-    placed-of reference n (t .0) kept (same-is (source .width) (reference .width) (t .1)) (same-is (source .height) (reference .height) (t .2)) (s .wide) (s .tall) (s .low)
+    let t = four-of (limitsHold reference) (same (source .width) (reference .width)) (same (source .height) (reference .height))
+    (same pel (reference .pel)) e in
+    placed-of reference n (t .0) kept (same-is (source .width) (reference .width) (t .1)) (same-is (source .height) (reference .height) (t .2)) (s .wide)
+    (s .tall) (s .low)
 
 pub searched : (q : Request) → holds1 q ≡ true → Searched q
 unfolding holds1
@@ -157,8 +164,10 @@ unfolding holds1 holds2 holds3 planesHold referencesHold
 fair q r luma u v referenceLuma referenceU referenceV e₁ e₂ e₃ e₄ pairs wide =
     let s = q .source in
     let g = q .reference in
-    let t = six-of (isPel (q .pel)) (areShifts (q .shift .x) (q .shift .y)) (isFrameSide (s .luma .width)) (isFrameSide (s .luma .height)) (planesHold s (q .shift)) (referencesHold (q .pel) s g) e₂ in
-    let p = five-of (limitsHold (s .luma)) (limitsHold (s .u)) (limitsHold (s .v)) (chromaHolds (s .luma) (q .shift) (s .u)) (chromaHolds (s .luma) (q .shift) (s .v)) (t .4) in
+    let t = six-of (isPel (q .pel)) (areShifts (q .shift .x) (q .shift .y)) (isFrameSide (s .luma .width)) (isFrameSide (s .luma .height))
+    (planesHold s (q .shift)) (referencesHold (q .pel) s g) e₂ in
+    let p = five-of (limitsHold (s .luma)) (limitsHold (s .u)) (limitsHold (s .v)) (chromaHolds (s .luma) (q .shift) (s .u))
+    (chromaHolds (s .luma) (q .shift) (s .v)) (t .4) in
     let m = three-of (referenceHolds (q .pel) (s .luma) (g .luma)) (referenceHolds (q .pel) (s .u) (g .u)) (referenceHolds (q .pel) (s .v) (g .v)) (t .5) in
     let k = three-of (keepsLength (s .luma) luma) (keepsLength (s .u) u) (keepsLength (s .v) v) e₃ in
     let l = three-of (keepsLength (g .luma) referenceLuma) (keepsLength (g .u) referenceU) (keepsLength (g .v) referenceV) e₄ in
@@ -179,7 +188,11 @@ fair q r luma u v referenceLuma referenceU referenceV e₁ e₂ e₃ e₄ pairs 
       reference-u = reference-placed (q .pel) (s .u) (g .u) referenceU own-u (m .1) (l .1);
       reference-v = reference-placed (q .pel) (s .v) (g .v) referenceV own-v (m .2) (l .2);
       pairs = pairs;
-      served = λ b. record { ranged = ranged (taskOf q) r pairs; narrow = narrowed (taskOf q) (radiusOf (q .«search_param»)) r (radius-within (searched q e₁ .search)) wide b };
+      served = λ b. record {
+        ranged = ranged (taskOf q) r pairs;
+        narrow = narrowed (taskOf q) (radiusOf (q .«search_param»)) r
+            (radius-within (searched q e₁ .search)) wide b;
+      };
     }
 
 -- ---- the chain: 0 where every test holds
@@ -188,7 +201,8 @@ pub record Accepted (q : Request) (records : List ℤ) (bests : ℕ) : Type 0 wh
   pub comparable : (i : ℕ) → i < length records / 12 → Comparable (taskOf q) (recordAt records i)
   pub room : 4 * (length records / 12) ≤ bests
 
-pub accepted : (q : Request) (records : List ℤ) (luma u v referenceLuma referenceU referenceV bests : ℕ) → refusalOf q records luma u v referenceLuma referenceU referenceV bests ≡ 0 → Accepted q records bests
+pub accepted : (q : Request) (records : List ℤ) (luma u v referenceLuma referenceU referenceV bests : ℕ) →
+    refusalOf q records luma u v referenceLuma referenceU referenceV bests ≡ 0 → Accepted q records bests
 unfolding refusalOf
 accepted q records luma u v referenceLuma referenceU referenceV bests e =
     let n = length records / 12 in
@@ -203,7 +217,8 @@ accepted q records luma u v referenceLuma referenceU referenceV bests e =
     each-fails (λ j. isWide (radiusOf (q .«search_param»)) (recordAt records j)) n i (t₇ .0) l in
     record {
       fair-all = λ i l pairs.
-          fair q (recordAt records i) luma u v referenceLuma referenceU referenceV (t₁ .0) (t₂ .0) (left-of own other (t₃ .0)) (right-of own other (t₃ .0)) pairs
+          fair q (recordAt records i) luma u v referenceLuma referenceU referenceV (t₁ .0) (t₂ .0) (left-of own other (t₃ .0))
+          (right-of own other (t₃ .0)) pairs
           (each i l);
       comparable = λ i l. record {
         block-in = block-of q (t₁ .0);

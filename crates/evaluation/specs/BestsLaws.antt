@@ -28,7 +28,8 @@ module _ (task : Task) (records : List ℤ) (luma u v referenceLuma referenceU r
   pub written-long : (i : ℕ) (old : List ℤ) {bests : List ℤ} → Written i old bests → 4 * i ≤ length old → length bests ≡ length old
   written-long i old e l = ap length e ∙ length-append (upto i) (drop (4 * i) old) ∙ omega (arith, bests-long i, length-drop (4 * i) old)
 
-  pub written-next : (i : ℕ) (old : List ℤ) {bests : List ℤ} {best : Best} → Written i old bests → best ≡ bestAt task records luma u v referenceLuma referenceU referenceV i →
+  pub written-next : (i : ℕ) (old : List ℤ) {bests : List ℤ} {best : Best} → Written i old bests →
+      best ≡ bestAt task records luma u v referenceLuma referenceU referenceV i →
       Written (i + 1) old (paste bests (4 * i) (bestList best) 4)
   unfolding bestsUpto
   written-next i old {bests} {best} e f =

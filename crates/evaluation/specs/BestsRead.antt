@@ -51,5 +51,6 @@ module _ (task : Task) (records : List ℤ) (luma u v referenceLuma referenceU r
       (λ h.
       let same : n ≡ i = omega arith in
       subst (λ (j : ℕ). Reads (upto n ++ bestList (best n) ++ tail) j (best j)) same
-      (subst (λ (k : List ℤ). Reads k n (best n)) joined (last-reads (upto n) tail n (best n) (bests-long task records luma u v referenceLuma referenceU referenceV n))))
+      (subst (λ (k : List ℤ). Reads k n (best n)) joined (last-reads (upto n) tail n (best n)
+      (bests-long task records luma u v referenceLuma referenceU referenceV n))))
       (lt-or-ge i n)

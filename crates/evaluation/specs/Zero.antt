@@ -1,6 +1,6 @@
--- The paper's third demand, last sentence, of the lent buffer: after an accepted evaluation at pel 2 or 4 the SAD that stands in the buffer for a bad record is 0
--- exactly when all samples compared at the vector that stands beside it agree, a sample outside plane data or without an offset read as 0. What agreeing means is
--- best's `AgreeAt`. A sample of a plane is a byte: that is all that is asked of the planes' data, and every lent u8 slice has it. Assumes nothing.
+-- The paper's third demand, last sentence, of the lent buffer: after an accepted evaluation at pel 2 or 4 the SAD that stands in the buffer for a bad record is
+-- 0 exactly when all samples compared at the vector that stands beside it agree, a sample outside plane data or without an offset read as 0. What agreeing
+-- means is best's `AgreeAt`. A sample of a plane is a byte: that is all that is asked of the planes' data, and every lent u8 slice has it. Assumes nothing.
 use mathlib.Core.Path.{_≡_, refl, sym, subst, _∙_}
 use mathlib.Core.Bool.{true, false}
 use mathlib.Core.List.{List}
@@ -64,13 +64,15 @@ module _ (q : Request) (records : List ℤ) (luma u v referenceLuma referenceU r
     to-best : Alike (getD after (4 * i) (pos 0)) (getD after (4 * i + 1) (pos 0)) → Alike (best .x) (best .y)
     to-best a = rw (reads .x, reads .y) at a
 
-    module _ (bad : isBad (recordAt records i) ≡ true) (pel : (q .pel ≡ pos 2) ⊎ (q .pel ≡ pos 4)) (bytes : Bytes luma) (reference-bytes : Bytes referenceLuma) where
+    module _ (bad : isBad (recordAt records i) ≡ true) (pel : (q .pel ≡ pos 2) ⊎ (q .pel ≡ pos 4)) (bytes : Bytes luma)
+        (reference-bytes : Bytes referenceLuma) where
       known : Comparable (taskOf q) (recordAt records i)
       known = taken .comparable i there
 
       only-there : getD after (4 * i + 2) (pos 0) ≡ pos 0 → Alike (getD after (4 * i) (pos 0)) (getD after (4 * i + 1) (pos 0))
       only-there e =
-          to-buffer (zero-only (taskOf q) (recordAt records i) luma u v referenceLuma referenceU referenceV known bad (not-1 (q .pel) pel) bytes reference-bytes (sym (reads .sad) ∙ e))
+          to-buffer (zero-only (taskOf q) (recordAt records i) luma u v referenceLuma referenceU referenceV known bad
+          (not-1 (q .pel) pel) bytes reference-bytes (sym (reads .sad) ∙ e))
 
       where-all-agree : Alike (getD after (4 * i) (pos 0)) (getD after (4 * i + 1) (pos 0)) → getD after (4 * i + 2) (pos 0) ≡ pos 0
       where-all-agree a =

@@ -1,5 +1,5 @@
--- A grid of 2 x 2 blocks, by computation: the words of (1,-1) in 01's "Numbers to hold on to", two entries of one index, and each refusal beside the input that is one
--- step inside.
+-- A grid of 2 x 2 blocks, by computation: the words of (1,-1) in 01's "Numbers to hold on to", two entries of one index, and each refusal beside the input that
+-- is one step inside.
 use mathlib.Core.Path.{_≡_, refl}
 use mathlib.Core.Bool.{true, false}
 use mathlib.Core.List.{List, [], _∷_}
@@ -92,6 +92,7 @@ unfolding finishAnswer anyUpto
 bests-of-3 = refl
 
 -- the second best alone does not fit
-pub second-best-wild : finishAnswer (pos 2) (pos 2) (pos 0 ∷ pos 0 ∷ []) (pos 1 ∷ pos 2 ∷ pos 3 ∷ pos 4 ∷ pos 32768 ∷ pos 2 ∷ pos 3 ∷ pos 4 ∷ []) (pos 1) false 12 0 ≡ 7
+pub second-best-wild : finishAnswer (pos 2) (pos 2) (pos 0 ∷ pos 0 ∷ []) (pos 1 ∷ pos 2 ∷ pos 3 ∷ pos 4 ∷ pos 32768 ∷ pos 2 ∷ pos 3 ∷ pos 4 ∷ [])
+    (pos 1) false 12 0 ≡ 7
 unfolding finishAnswer anyUpto
 second-best-wild = refl

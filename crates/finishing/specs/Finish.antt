@@ -111,4 +111,5 @@ finishVectors nx ny indices bests diagonal asked vectors room =
 
 unfoldable pub finishOutput : ℤ → ℤ → List ℤ → List ℤ → ℤ → Bool → ℕ → List ℤ → List ℤ
 finishOutput nx ny indices bests diagonal asked held output =
-    kept (finishAnswer nx ny indices bests diagonal asked held (length output)) (cond asked (writtenUpto (putting indices bests diagonal) output (length indices)) output) output
+    kept (finishAnswer nx ny indices bests diagonal asked held (length output))
+    (cond asked (writtenUpto (putting indices bests diagonal) output (length indices)) output) output

@@ -1,5 +1,5 @@
--- What the lent buffers hold afterwards, place by place: the later of two entries wins, blocks that no entry names keep what they held, an output keeps its tail,
--- and neither buffer's length changes. Assumes nothing.
+-- What the lent buffers hold afterwards, place by place: the later of two entries wins, blocks that no entry names keep what they held, an output keeps its
+-- tail, and neither buffer's length changes. Assumes nothing.
 use mathlib.Core.Path.{_≡_, refl, ap, _∙_}
 use mathlib.Core.Bool.{Bool, true, false, cond}
 use mathlib.Core.List.{List}
@@ -11,7 +11,22 @@ use lib.Seq.{getD-set-same, getD-set-other, drop-set-lt}
 use Rattle.limits.specs.Limits.{blocksOf}
 use Rattle.limits.specs.Refusals.{kept}
 use Rattle.limits.specs.Refused.{kept-done}
-use Rattle.finishing.specs.Finish.{blockAt, xAt, yAt, sadAt, writtenUpto, stored, storing, wordAt, scoreAt, wordsPut, putting, finishAnswer, finishVectors, finishOutput}
+use Rattle.finishing.specs.Finish.{
+  blockAt,
+  xAt,
+  yAt,
+  sadAt,
+  writtenUpto,
+  stored,
+  storing,
+  wordAt,
+  scoreAt,
+  wordsPut,
+  putting,
+  finishAnswer,
+  finishVectors,
+  finishOutput,
+}
 use Rattle.finishing.specs.Written.{unchanged, as-left-by, vectors-long, output-long}
 use Rattle.finishing.specs.Served.{passed}
 
@@ -23,7 +38,8 @@ pub record PlaceOf (each block p : ℕ) : Type 0 where
 -- ---- one entry, written: its own places, and all others
 module _ (s : List ℤ) (index : ℕ) (x y sad : ℤ) where
   stored-there : 3 * index + 3 ≤ length s →
-      (getD (stored s index x y sad) (3 * index) (pos 0) ≡ x) × (getD (stored s index x y sad) (3 * index + 1) (pos 0) ≡ y) × (getD (stored s index x y sad) (3 * index + 2) (pos 0) ≡ sad)
+      (getD (stored s index x y sad) (3 * index) (pos 0) ≡ x) × (getD (stored s index x y sad) (3 * index + 1) (pos 0) ≡ y) ×
+      (getD (stored s index x y sad) (3 * index + 2) (pos 0) ≡ sad)
   stored-there h =
       let first = set s (3 * index) x in
       let second = set first (3 * index + 1) y in
@@ -31,7 +47,8 @@ module _ (s : List ℤ) (index : ℕ) (x y sad : ℤ) where
         getD-set-other second (3 * index + 2) (3 * index) sad (pos 0) (λ e. omega arith)
             ∙ getD-set-other first (3 * index + 1) (3 * index) y (pos 0) (λ e. omega arith)
             ∙ getD-set-same s (3 * index) x (pos 0) (omega arith),
-        getD-set-other second (3 * index + 2) (3 * index + 1) sad (pos 0) (λ e. omega arith) ∙ getD-set-same first (3 * index + 1) y (pos 0) (omega (arith, length-set s (3 * index) x)),
+        getD-set-other second (3 * index + 2) (3 * index + 1) sad (pos 0) (λ e. omega arith)
+            ∙ getD-set-same first (3 * index + 1) y (pos 0) (omega (arith, length-set s (3 * index) x)),
         getD-set-same second (3 * index + 2) sad (pos 0) (omega arith),
       )
 
@@ -44,7 +61,8 @@ module _ (s : List ℤ) (index : ℕ) (x y sad : ℤ) where
       ∙ getD-set-other s (3 * index) p x (pos 0) (λ e. other (omega arith))
 
 module _ (s : List ℤ) (index : ℕ) (word score : ℤ) where
-  put-there : 2 * index + 2 ≤ length s → (getD (wordsPut s index word score) (2 * index) (pos 0) ≡ word) × (getD (wordsPut s index word score) (2 * index + 1) (pos 0) ≡ score)
+  put-there : 2 * index + 2 ≤ length s → (getD (wordsPut s index word score) (2 * index) (pos 0) ≡ word) ×
+      (getD (wordsPut s index word score) (2 * index + 1) (pos 0) ≡ score)
   put-there h =
       let first = set s (2 * index) word in (
         getD-set-other first (2 * index + 1) (2 * index) score (pos 0) (λ e. omega arith) ∙ getD-set-same s (2 * index) word (pos 0) (omega arith),
@@ -95,7 +113,12 @@ module _ (nx ny : ℤ) (indices bests : List ℤ) (diagonal : ℤ) (asked : Bool
   later-vector-wins n last =
       let p = passed nx ny indices bests diagonal asked (length vectors) (length output) done in
       let before = writtenUpto (storing indices bests) vectors n in
-      let room : 3 * blockAt indices n + 3 ≤ length before = omega (arith, p .inside n (last .one-of) .below, p .held-is, vectors-long indices bests vectors n) in
+      let room : 3 * blockAt indices n + 3 ≤ length before = omega (
+        arith,
+        p .inside n (last .one-of) .below,
+        p .held-is,
+        vectors-long indices bests vectors n,
+      ) in
       let there = stored-there before (blockAt indices n) (xAt bests n) (yAt bests n) (sadAt bests n) room in
       let at = 3 * blockAt indices n in (
         vector-as-left n at (omega arith) last ∙ there .0,
@@ -118,7 +141,8 @@ module _ (nx ny : ℤ) (indices bests : List ℤ) (diagonal : ℤ) (asked : Bool
     unfolding finishOutput
     output-is = kept-done _ _ output done ∙ rw wanted
 
-    words-beside : (m block p : ℕ) (s : List ℤ) → PlaceOf 2 block p → (blockAt indices m ≡ block → ⊥) → getD (putting indices bests diagonal m s) p (pos 0) ≡ getD s p (pos 0)
+    words-beside : (m block p : ℕ) (s : List ℤ) → PlaceOf 2 block p → (blockAt indices m ≡ block → ⊥) →
+        getD (putting indices bests diagonal m s) p (pos 0) ≡ getD s p (pos 0)
     words-beside m block p s h other =
         put-beside s (blockAt indices m) (wordAt bests m) (scoreAt bests diagonal m) block p h other
 
@@ -140,7 +164,12 @@ module _ (nx ny : ℤ) (indices bests : List ℤ) (diagonal : ℤ) (asked : Bool
     later-words-win n last =
         let p = passed nx ny indices bests diagonal asked (length vectors) (length output) done in
         let before = writtenUpto (putting indices bests diagonal) output n in
-        let room : 2 * blockAt indices n + 2 ≤ length before = omega (arith, p .inside n (last .one-of) .below, p .room-is wanted, output-long indices bests diagonal output n) in
+        let room : 2 * blockAt indices n + 2 ≤ length before = omega (
+          arith,
+          p .inside n (last .one-of) .below,
+          p .room-is wanted,
+          output-long indices bests diagonal output n,
+        ) in
         let there = put-there before (blockAt indices n) (wordAt bests n) (scoreAt bests diagonal n) room in
         let at = 2 * blockAt indices n in
         (words-as-left n at (omega arith) last ∙ there .0, words-as-left n (at + 1) (omega arith) last ∙ there .1)
@@ -155,11 +184,13 @@ module _ (nx ny : ℤ) (indices bests : List ℤ) (diagonal : ℤ) (asked : Bool
 
 -- ---- for every input, refused ones too
 -- what is read of a buffer is as before: where it is kept, and where what is written leaves that alone
-by-number : {A : Type 0} (read : List ℤ → A) (number : ℕ) (held written : List ℤ) → (number ≡ 0 → read written ≡ read held) → read (kept number written held) ≡ read held
+by-number : {A : Type 0} (read : List ℤ → A) (number : ℕ) (held written : List ℤ) → (number ≡ 0 → read written ≡ read held) →
+    read (kept number written held) ≡ read held
 by-number read zero held written same = same refl
 by-number read (suc n) held written same = refl
 
-by-asking : {A : Type 0} (read : List ℤ → A) (asked : Bool) (held written : List ℤ) → (asked ≡ true → read written ≡ read held) → read (cond asked written held) ≡ read held
+by-asking : {A : Type 0} (read : List ℤ → A) (asked : Bool) (held written : List ℤ) → (asked ≡ true → read written ≡ read held) →
+    read (cond asked written held) ≡ read held
 by-asking read true held written same = same refl
 by-asking read false held written same = refl
 
@@ -168,7 +199,8 @@ module _ (nx ny : ℤ) (indices bests : List ℤ) (diagonal : ℤ) (asked : Bool
   pub vectors-length : (vectors : List ℤ) (room : ℕ) → length (finishVectors nx ny indices bests diagonal asked vectors room) ≡ length vectors
   unfolding finishVectors
   vectors-length vectors room =
-      by-number length (finishAnswer nx ny indices bests diagonal asked (length vectors) room) vectors _ (λ e. vectors-long indices bests vectors (length indices))
+      by-number length (finishAnswer nx ny indices bests diagonal asked (length vectors) room) vectors _
+      (λ e. vectors-long indices bests vectors (length indices))
 
   pub output-length : (held : ℕ) (output : List ℤ) → length (finishOutput nx ny indices bests diagonal asked held output) ≡ length output
   unfolding finishOutput

@@ -17,7 +17,8 @@ module _ (nx ny : ℤ) (indices bests : List ℤ) (diagonal : ℤ) (asked : Bool
     pub output-is : written ≡ finishOutput nx ny indices bests diagonal asked (length vectors) output
 
   -- a refusal changes nothing lent
-  pub refused : (number : ℕ) → number ≡ finishAnswer nx ny indices bests diagonal asked (length vectors) (length output) → 0 < number → Outcome number vectors output
+  pub refused : (number : ℕ) → number ≡ finishAnswer nx ny indices bests diagonal asked (length vectors) (length output) → 0 < number →
+      Outcome number vectors output
   unfolding finishVectors finishOutput
   refused number e h =
       let given : 0 < finishAnswer nx ny indices bests diagonal asked (length vectors) (length output) = omega arith in
@@ -28,6 +29,7 @@ module _ (nx ny : ℤ) (indices bests : List ℤ) (diagonal : ℤ) (asked : Bool
     unfolding finishVectors finishOutput
     done-alone e = record { number-is = sym done; vectors-are = sym (kept-done _ _ vectors done); output-is = sym (kept-done _ _ output done ∙ rw e) }
 
-    pub done-with-output : asked ≡ true → Outcome 0 (writtenUpto (storing indices bests) vectors (length indices)) (writtenUpto (putting indices bests diagonal) output (length indices))
+    pub done-with-output : asked ≡ true → Outcome 0 (writtenUpto (storing indices bests) vectors (length indices))
+        (writtenUpto (putting indices bests diagonal) output (length indices))
     unfolding finishVectors finishOutput
     done-with-output e = record { number-is = sym done; vectors-are = sym (kept-done _ _ vectors done); output-is = sym (kept-done _ _ output done ∙ rw e) }

@@ -44,5 +44,6 @@ module _ (write : ℕ → List ℤ → List ℤ) (buffer : List ℤ) where
 pub vectors-long : (indices bests vectors : List ℤ) (n : ℕ) → length (writtenUpto (storing indices bests) vectors n) ≡ length vectors
 vectors-long indices bests vectors n = unchanged (storing indices bests) vectors length n (λ m s h. simp length-set)
 
-pub output-long : (indices bests : List ℤ) (diagonal : ℤ) (output : List ℤ) (n : ℕ) → length (writtenUpto (putting indices bests diagonal) output n) ≡ length output
+pub output-long : (indices bests : List ℤ) (diagonal : ℤ) (output : List ℤ) (n : ℕ) →
+    length (writtenUpto (putting indices bests diagonal) output n) ≡ length output
 output-long indices bests diagonal output n = unchanged (putting indices bests diagonal) output length n (λ m s h. simp length-set)

@@ -44,8 +44,10 @@ size-of width height e =
     let by-8 = is 8 height || is 4 height in
     ⊎-elim
     (λ f. ⊎-elim
-    (λ g. both-sides (is 16 width) by-16 g (side-of 16 width (omega arith) (omega arith)) (either-side 16 8 height (omega arith) (omega arith) (omega arith) (omega arith)))
-    (λ g. both-sides (is 8 width) by-8 g (side-of 8 width (omega arith) (omega arith)) (either-side 8 4 height (omega arith) (omega arith) (omega arith) (omega arith)))
+    (λ g. both-sides (is 16 width) by-16 g (side-of 16 width (omega arith) (omega arith))
+    (either-side 16 8 height (omega arith) (omega arith) (omega arith) (omega arith)))
+    (λ g. both-sides (is 8 width) by-8 g (side-of 8 width (omega arith) (omega arith))
+    (either-side 8 4 height (omega arith) (omega arith) (omega arith) (omega arith)))
     (either-of (is 16 width && by-16) (is 8 width && by-8) f))
     (λ f. both-sides (is 4 width) (is 4 height) f (side-of 4 width (omega arith) (omega arith)) (side-of 4 height (omega arith) (omega arith)))
     (either-of (is 16 width && by-16 || is 8 width && by-8) (is 4 width && is 4 height) e)
@@ -95,7 +97,8 @@ module _ (measure width height : ℤ) (a : List ℕ) (pitch-a : ℤ) (b : List �
   outcome-2 e = refused 1 (rw e)
 
   module _ (fit : numbersFit measure width height pitch-a pitch-b ≡ true) where
-    pub outcome-3 : (isHeld a (natAbs pitch-a) (natAbs width) (natAbs height) && isHeld b (natAbs pitch-b) (natAbs width) (natAbs height)) ≡ false → Outcome 3 out
+    pub outcome-3 : (isHeld a (natAbs pitch-a) (natAbs width) (natAbs height) && isHeld b (natAbs pitch-b) (natAbs width) (natAbs height)) ≡ false →
+        Outcome 3 out
     unfolding costNumber
     outcome-3 e = refused 2 (rw (fit, e))
 

@@ -51,8 +51,10 @@ module _ (s : Settings) (framed : Framed s) where
       ap (λ (t : Bool). cond t (Is (diagonalOf (s .planes .luma .width) (s .planes .luma .height) (s .level .pel))) answer.Refused) (framed .frame)
       ∙ ap (λ (m : Made). Is (m .diagonal)) e
 
-pub done-has : (s : Settings) (order vectors : List ℤ) (luma u v words indices : ℕ) {made : Made} → planAnswer s order vectors luma u v words indices ≡ Done made →
-    (slotsAnswer (s .search .«search_param») ≡ Is (made .slots)) × (diagonalAnswer (s .planes .luma .width) (s .planes .luma .height) (s .level .pel) ≡ Is (made .diagonal))
+pub done-has : (s : Settings) (order vectors : List ℤ) (luma u v words indices : ℕ) {made : Made} →
+    planAnswer s order vectors luma u v words indices ≡ Done made →
+    (slotsAnswer (s .search .«search_param») ≡ Is (made .slots)) × (diagonalAnswer (s .planes .luma .width) (s .planes .luma .height) (s .level .pel)
+    ≡ Is (made .diagonal))
 unfolding planAnswer
 done-has s order vectors luma u v words indices e =
     let d = done-at (refusalOf s order vectors luma u v words indices) e in

@@ -26,6 +26,7 @@ module _ (refused : ℕ) {answer : Answer} (out : List ℕ) where
   given-0 e room = let t = le-ltb (length out) 4 room in record { number-is = rw e (rw t); bytes-are = rw e (rw t) }
 
   -- what is given of one answer is given of any that is equal to it
-  pub given-as : {other : Answer} {number : ℕ} {after : List ℕ} → (number ≡ wordNumber refused answer (length out)) × (after ≡ wordBytes answer out) → answer ≡ other →
+  pub given-as : {other : Answer} {number : ℕ} {after : List ℕ} → (number ≡ wordNumber refused answer (length out)) × (after ≡ wordBytes answer out) →
+      answer ≡ other →
       (number ≡ wordNumber refused other (length out)) × (after ≡ wordBytes other out)
   given-as {other} g e = (g .0 ∙ ap (λ (a : Answer). wordNumber refused a (length out)) e, g .1 ∙ ap (λ (a : Answer). wordBytes a out) e)

@@ -32,7 +32,8 @@ second a b c d t = and-r a b (and-l (a && b) c (and-l (a && b && c) d t))
 few-digits : (m : ℕ) (e : ℤ) → T (fits binary64 (fin false m e)) → m < 2 ^ 53
 unfolding fits
 few-digits zero e t = lit< tt
-few-digits (suc m) e t = ltb→lt (suc m) (2 ^ 53) (second (eqb (suc m % 2) 1) (ltb (suc m) (2 ^ 53)) (leb (down e) (2 ^ 1074)) (ltb (suc m * up e) (2 ^ 1024 * down e)) t)
+few-digits (suc m) e t = ltb→lt (suc m) (2 ^ 53) (second (eqb (suc m % 2) 1) (ltb (suc m) (2 ^ 53)) (leb (down e) (2 ^ 1074))
+    (ltb (suc m * up e) (2 ^ 1024 * down e)) t)
 
 on-grid : (k : ℕ) (y : Float) → T (fits binary64 y) → T (plain y) → OnGrid (num y) (den y) (2 ^ k)
 unfolding OnGrid
@@ -111,10 +112,12 @@ module _ (n p k : ℕ) (v : Float) (is-n : num v * 1 ≡ n * den v) (g : Digits 
       let q : (p + 1) * den y < num y * K = more-than (num y) (den y) (p + 1) K (num x) (den x) (sym is-x) (pow-pos k) l in
       lt-of-not-le λ h.
       let h' = ap (λ (z : ℕ). 4 * z * (sumDen x y * sumDen x y)) is-n in
-      let m = square-below 4 n (den v) (den x) (den y) K (sumNum x y) ((p + 1) * den y + num y * K) (den-pos v) (den-pos x) (over-x (num x) (den x) (num y) (den y) (p + 1) K is-x) (omega arith) in
+      let m = square-below 4 n (den v) (den x) (den y) K (sumNum x y) ((p + 1) * den y + num y * K) (den-pos v) (den-pos x)
+      (over-x (num x) (den x) (num y) (den y) (p + 1) K is-x) (omega arith) in
       ⊎-elim
       (λ s. let b = mul-le-mul-right (den y) big in omega arith)
-      (λ z. no-whole-above (n * (K * K)) p (z .0) (den y) (den-pos y) (g .high) (let c = cancel (p + 1) (z .0) (den y) (omega arith) in omega arith) (let e = ap (λ (u : ℕ). ((p + 1) * den y + u) * ((p + 1) * den y + u)) (z .1) in omega arith))
+      (λ z. no-whole-above (n * (K * K)) p (z .0) (den y) (den-pos y) (g .high) (let c = cancel (p + 1) (z .0) (den y) (omega arith) in omega arith)
+      (let e = ap (λ (u : ℕ). ((p + 1) * den y + u) * ((p + 1) * den y + u)) (z .1) in omega arith))
       o
 
   nearer-than-below : (y : Float) → Less y (at p k) → OnGrid (num y) (den y) (2 ^ k) → sumSquared v (at p k) y < fourTimes v (at p k) y
@@ -125,7 +128,8 @@ module _ (n p k : ℕ) (v : Float) (is-n : num v * 1 ≡ n * den v) (g : Digits 
       let q : num y * K < (p + 1) * den y = less-than (num y) (den y) (p + 1) K (num x) (den x) (sym is-x) (pow-pos k) l in
       lt-of-not-le λ h.
       let h' = ap (λ (z : ℕ). 4 * z * (sumDen x y * sumDen x y)) is-n in
-      let m = square-above 4 n (den v) (den x) (den y) K (sumNum x y) ((p + 1) * den y + num y * K) (den-pos v) (den-pos x) (over-x (num x) (den x) (num y) (den y) (p + 1) K is-x) (omega arith) in
+      let m = square-above 4 n (den v) (den x) (den y) K (sumNum x y) ((p + 1) * den y + num y * K) (den-pos v) (den-pos x)
+      (over-x (num x) (den x) (num y) (den y) (p + 1) K is-x) (omega arith) in
       let N = n * (K * K) in
       let P = (p + 1) * den y + num y * K in
       ⊎-elim
@@ -133,7 +137,8 @@ module _ (n p k : ℕ) (v : Float) (is-n : num v * 1 ≡ n * den v) (g : Digits 
       (λ t. no-part-below N P (den y) (den-pos y) (g .enough) (let e = mul-le-mul-right (den y) t in omega arith) (omega arith))
       (λ t. no-whole-below N p P (den y) (den-pos y) (g .low) (let e = mul-le-mul-right (den y) t in omega arith) (omega arith))
       (lt-or-ge p (2 ^ 52)))
-      (λ z. no-whole-below N p P (den y) (den-pos y) (g .low) (let c = cancel (z .0) (p + 1) (den y) (omega arith) in let e = mul-le-mul-right (den y) c in omega arith) (omega arith))
+      (λ z. no-whole-below N p P (den y) (den-pos y) (g .low) (let c = cancel (z .0) (p + 1) (den y) (omega arith) in let e = mul-le-mul-right (den y) c in
+      omega arith) (omega arith))
       o
 
   nearest-at : IsNearest binary64 v (at p k)
@@ -160,7 +165,8 @@ bits-are f (fin false m e) p = omega arith
 one-form : (f : Format) (x y : Float) → T (fits f x) → T (fits f y) → T (plain x) → T (plain y) → num x * den y ≡ num y * den x → x ≡ y
 one-form f x y X Y P Q e =
     let l = 2 ^ low f in
-    let k : num x * l / den x ≡ num y * l / den y = div-same (num x * l) (den x) (num y * l) (den y) (den-pos x) (den-pos y) (let h = ap (λ (z : ℕ). z * l) e in omega arith) in
+    let k : num x * l / den x ≡ num y * l / den y = div-same (num x * l) (den x) (num y * l) (den y) (den-pos x) (den-pos y)
+    (let h = ap (λ (z : ℕ). z * l) e in omega arith) in
     sym (ofBits-toBits f x X) ∙ ap (ofBits f) (bits-are f x P ∙ ap (bitsOf f) k ∙ sym (bits-are f y Q)) ∙ ofBits-toBits f y Y
 
 -- less, more or equal
@@ -204,7 +210,8 @@ under (suc N) = go (under N)
         let s = h .root in
         let a = h .square in
         let b = h .next in
-        ⊎-elim (λ l. record { root = s; square = omega arith; next = l }) (λ l. record { root = s + 1; square = l; next = omega arith }) (lt-or-ge (suc N) ((s + 1) * (s + 1)))
+        ⊎-elim (λ l. record { root = s; square = omega arith; next = l }) (λ l. record { root = s + 1; square = l; next = omega arith })
+        (lt-or-ge (suc N) ((s + 1) * (s + 1)))
 
 -- n times a power of four lies from 2 ^ 28 up to 2 ^ 30; the other 2 ^ 76 are even and stay apart
 record Scaled (n : ℕ) : Type 0 where
@@ -218,7 +225,8 @@ record Scaled (n : ℕ) : Type 0 where
 scaled : (n d M k : ℕ) → 2 ^ 28 ≤ M * 4 ^ d → M < 2 ^ 30 → k + d ≡ 52 → M * 2 ^ 76 ≡ n * (2 ^ k * 2 ^ k) → Scaled n
 scaled n zero M k l h e s = record { k = k; M = M; deep = omega arith; low = omega arith; high = h; same = s }
 scaled n (suc d) M k l h e s = ⊎-elim
-    (λ b. scaled n d (4 * M) (suc k) (let q = ap (λ (z : ℕ). M * z) (pow-suc 4 d) in omega arith) (omega arith) (omega arith) (let q = ap (λ (z : ℕ). n * (z * z)) (pow-suc 2 k) in omega arith))
+    (λ b. scaled n d (4 * M) (suc k) (let q = ap (λ (z : ℕ). M * z) (pow-suc 4 d) in omega arith) (omega arith) (omega arith)
+    (let q = ap (λ (z : ℕ). n * (z * z)) (pow-suc 2 k) in omega arith))
     (λ b. record { k = k; M = M; deep = omega arith; low = b; high = h; same = s })
     (lt-or-ge M (2 ^ 28))
 
@@ -256,7 +264,8 @@ nearest-to-zero v e =
     record {
       held = unfold fits in tt;
       number = tt;
-      under = λ y h p l. let a : 0 < num y = omega arith in let b = mul-pos (mul-pos a a) (den-pos v) in let c = ap (λ (z : ℕ). 4 * z * (den y * den y)) e in omega arith;
+      under = λ y h p l. let a : 0 < num y = omega arith in let b = mul-pos (mul-pos a a) (den-pos v) in let c = ap (λ (z : ℕ). 4 * z * (den y * den y)) e in
+          omega arith;
       over = λ y h p l. absurd (omega arith);
     }
 
@@ -273,8 +282,10 @@ module _ (n p k b : ℕ) (N : n < 2 ^ 30) (d : Digits n p k) (e : toBits binary6
 
 pub root-of-2 : (x : Float) → IsSqrt binary64 (ofInt binary64 (pos 2)) x → toBits binary64 x ≡ 0x3FF6A09E667F3BCD
 unfolding at toBits round
-root-of-2 = bits 2 0x16A09E667F3BCC 52 0x3FF6A09E667F3BCD (lit< tt) (record { few = lit< tt; deep = lit≤ tt; enough = lit≤ tt; low = lit≤ tt; high = lit< tt }) refl
+root-of-2 = bits 2 0x16A09E667F3BCC 52 0x3FF6A09E667F3BCD (lit< tt) (record
+    { few = lit< tt; deep = lit≤ tt; enough = lit≤ tt; low = lit≤ tt; high = lit< tt }) refl
 
 pub root-of-3 : (x : Float) → IsSqrt binary64 (ofInt binary64 (pos 3)) x → toBits binary64 x ≡ 0x3FFBB67AE8584CAA
 unfolding at toBits round
-root-of-3 = bits 3 0x1BB67AE8584CA9 52 0x3FFBB67AE8584CAA (lit< tt) (record { few = lit< tt; deep = lit≤ tt; enough = lit≤ tt; low = lit≤ tt; high = lit< tt }) refl
+root-of-3 = bits 3 0x1BB67AE8584CA9 52 0x3FFBB67AE8584CAA (lit< tt) (record
+    { few = lit< tt; deep = lit≤ tt; enough = lit≤ tt; low = lit≤ tt; high = lit< tt }) refl

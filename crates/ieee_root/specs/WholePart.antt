@@ -39,12 +39,14 @@ module _ (n : ℕ) (v x : Float) (is-n : num v * 1 ≡ n * den v) (s : IsSqrt bi
     above : fourTimes v x y ≤ sumSquared v x y → 4 * n * (e * e) * (den x * den x) ≤ (num x * e + b * den x) * (num x * e + b * den x)
     above m =
         let k = ap (λ (z : ℕ). 4 * z * (sumDen x y * sumDen x y)) is-n in
-        square-above 4 n (den v) (den y) (den x) e (sumNum x y) (num x * e + b * den x) (den-pos v) (den-pos y) (sum-over (num x) (den x) (num y) (den y) b e is-b) (omega arith)
+        square-above 4 n (den v) (den y) (den x) e (sumNum x y) (num x * e + b * den x) (den-pos v) (den-pos y)
+        (sum-over (num x) (den x) (num y) (den y) b e is-b) (omega arith)
 
     below : sumSquared v x y ≤ fourTimes v x y → (num x * e + b * den x) * (num x * e + b * den x) ≤ 4 * n * (e * e) * (den x * den x)
     below m =
         let k = ap (λ (z : ℕ). 4 * z * (sumDen x y * sumDen x y)) is-n in
-        square-below 4 n (den v) (den y) (den x) e (sumNum x y) (num x * e + b * den x) (den-pos v) (den-pos y) (sum-over (num x) (den x) (num y) (den y) b e is-b) (omega arith)
+        square-below 4 n (den v) (den y) (den x) e (sumNum x y) (num x * e + b * den x) (den-pos v) (den-pos y)
+        (sum-over (num x) (den x) (num y) (den y) b e is-b) (omega arith)
 
   at-least : (r : ℕ) → r < 32768 → r * r ≤ n → r * den x ≤ num x
   at-least r R h =

@@ -52,7 +52,8 @@ at-each-radius Q none one two three (pos zero) e = none
 at-each-radius Q none one two three (pos (suc zero)) e = one
 at-each-radius Q none one two three (pos (suc (suc zero))) e = two
 at-each-radius Q none one two three (pos (suc (suc (suc zero)))) e = three
-at-each-radius Q none one two three (pos (suc (suc (suc (suc n))))) e = let high = lies-high (pos 0) (pos 3) (pos (suc (suc (suc (suc n))))) e in absurd (omega signed)
+at-each-radius Q none one two three (pos (suc (suc (suc (suc n))))) e = let high = lies-high (pos 0) (pos 3) (pos (suc (suc (suc (suc n))))) e in
+    absurd (omega signed)
 at-each-radius Q none one two three (negsuc n) e = let low = lies-low (pos 0) (pos 3) (negsuc n) e in absurd (omega signed)
 
 -- a block's sides are 8 or 16

@@ -1,5 +1,5 @@
--- 01's refusals, as numbers: its table's rows 0 to 8 in the table's order, and then what it says of the entries that a host calls. A row gives the definition that
--- an entry's contract cites a smallest input, and the number that the paper has for it. Definitions alone; the theorem is Table's.
+-- 01's refusals, as numbers: its table's rows 0 to 8 in the table's order, and then what it says of the entries that a host calls. A row gives the definition
+-- that an entry's contract cites a smallest input, and the number that the paper has for it. Definitions alone; the theorem is Table's.
 use mathlib.Core.Bool.{Bool, true, false}
 use mathlib.Core.List.{List, [], _∷_, _++_}
 use Prim.Native.Nat.{ℕ}
@@ -166,8 +166,8 @@ refusals =
     -- "8: a plan file's trailer breaks its rules, or the file is under 32 .. bytes"
     ∷ gives (planNumber (planOf [])) 8
     ∷ gives (planNumber (planOf (replicate 32 0))) 8
-    -- "If several apply, the lowest is given; a file is asked for 8 first": of a file with a window of 9x1 a line of 1 byte is 5, and one that is long enough is 7;
-    -- a record that isn't there is 4
+    -- "If several apply, the lowest is given; a file is asked for 8 first": of a file with a window of 9x1 a line of 1 byte is 5, and one that is long enough
+    -- is 7; a record that isn't there is 4
     ∷ gives (planNumber (planOf (file (pos 8)))) 7
     ∷ gives (head (pos 8) 1) 5
     ∷ gives (head (pos 8) 57) 7

@@ -1,5 +1,5 @@
--- 01, "Numbers to hold on to": every line marked P, in the paper's order, as one table. A row is what a definition gives, as numbers, and the numbers that the paper
--- has; the one theorem at the end says that each row's two sides are equal, by computation. Assumes nothing.
+-- 01, "Numbers to hold on to": every line marked P, in the paper's order, as one table. A row is what a definition gives, as numbers, and the numbers that the
+-- paper has; the one theorem at the end says that each row's two sides are equal, by computation. Assumes nothing.
 use mathlib.Core.Path.{_≡_, refl}
 use mathlib.Core.Bool.{Bool, true, false}
 use mathlib.Core.List.{List, [], _∷_, _++_}
@@ -141,5 +141,11 @@ numbersToHold =
 
 -- ---- the theorem, of these and of the refusals that the paper states as numbers
 pub all-hold : Every (numbersToHold ++ refusals)
-unfolding numbersToHold refusals packedPair packedRecord recordFits recordWords numbers walk each row sum sumZ hadamardAt tileSum diagonalAnswer diagonalOf rootOf scoreAnswer packedScore excessOf placeOf windowOf subpelOf planning.refusalOf planning.holds1 planning.holds2 planning.holds3 planning.axisHolds planning.chromaHolds planning.planesHold planning.vectorFits planning.entryHolds allFit turnAt blockAt slotsAt stepOf stepWith quietStep quietRecord badStep badRecord filledWith settledAt spotOf chromaPlace negativeOf axisOf shapeOf evaluation.refusalOf evaluation.holds1 evaluation.holds2 evaluation.referenceHolds evaluation.referencesHold anyUpto isWide recordAt recordOf wordsFrom finishAnswer positionRefusal blockRefusal orderRefusal planOf isPlanFile trailerHolds trailerOf headOf tally file.recordAt file.wordsAt headText lineText headAnswer lineAnswer decimal digits digitsBy wordAt bytesOf costNumber slotsAnswer
+unfolding numbersToHold refusals packedPair packedRecord recordFits recordWords numbers walk each row sum sumZ hadamardAt tileSum diagonalAnswer diagonalOf
+    rootOf scoreAnswer packedScore excessOf placeOf windowOf subpelOf planning.refusalOf planning.holds1 planning.holds2 planning.holds3 planning.axisHolds
+    planning.chromaHolds planning.planesHold planning.vectorFits planning.entryHolds allFit turnAt blockAt slotsAt stepOf stepWith quietStep quietRecord
+    badStep badRecord filledWith settledAt spotOf chromaPlace negativeOf axisOf shapeOf evaluation.refusalOf evaluation.holds1 evaluation.holds2
+    evaluation.referenceHolds evaluation.referencesHold anyUpto isWide recordAt recordOf wordsFrom finishAnswer positionRefusal blockRefusal orderRefusal
+    planOf isPlanFile trailerHolds trailerOf headOf tally file.recordAt file.wordsAt headText lineText headAnswer lineAnswer decimal digits digitsBy wordAt
+    bytesOf costNumber slotsAnswer
 all-hold = every-of (numbersToHold ++ refusals) refl

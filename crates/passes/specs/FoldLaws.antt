@@ -111,12 +111,15 @@ pub record Passed (s : Settings) (order vectors : List ℤ) (i : ℕ) (old-words
   pub words-are : words ≡ wordsUpto s order vectors i ++ drop (12 * i) old-words
   pub indices-are : indices ≡ indicesUpto s order vectors i ++ drop i old-indices
 
-module _ {s : Settings} {order vectors : List ℤ} {i : ℕ} {old-words words old-indices indices : List ℤ} {t : Slots} (p : Passed s order vectors i old-words words old-indices indices t) where
+module _ {s : Settings} {order vectors : List ℤ} {i : ℕ} {old-words words old-indices indices : List ℤ} {t : Slots}
+    (p : Passed s order vectors i old-words words old-indices indices t) where
   pub words-kept : 12 * i ≤ length old-words → length words ≡ length old-words
-  words-kept l = ap length (p .words-are) ∙ length-append (wordsUpto s order vectors i) (drop (12 * i) old-words) ∙ omega (arith, words-long s order vectors i, length-drop (12 * i) old-words)
+  words-kept l = ap length (p .words-are) ∙ length-append (wordsUpto s order vectors i) (drop (12 * i) old-words)
+      ∙ omega (arith, words-long s order vectors i, length-drop (12 * i) old-words)
 
   pub indices-kept : i ≤ length old-indices → length indices ≡ length old-indices
-  indices-kept l = ap length (p .indices-are) ∙ length-append (indicesUpto s order vectors i) (drop i old-indices) ∙ omega (arith, indices-long s order vectors i, length-drop i old-indices)
+  indices-kept l = ap length (p .indices-are) ∙ length-append (indicesUpto s order vectors i) (drop i old-indices)
+      ∙ omega (arith, indices-long s order vectors i, length-drop i old-indices)
 
   pub passed-more : {r : Turn} → i < length old-indices → r ≡ turnAt s order vectors i t →
       Passed s order vectors (i + 1) old-words (paste words (12 * i) (wordList (r .words)) 12) old-indices (set indices i (pos (r .index))) (r .slots)

@@ -1,4 +1,5 @@
--- Values put together of equal parts are equal. Each lemma is over plain variables, where `cc` sees at once what it would have to dig for at a place of the code.
+-- Values put together of equal parts are equal. Each lemma is over plain variables, where `cc` sees at once what it would have to dig for at a place of the
+-- code.
 use mathlib.Core.Path.{_≡_}
 use lib.IntN.{ℤ}
 use Rattle.plan_file.specs.declared.Trailer.{Trailer}

@@ -63,7 +63,14 @@ half-most : (last : ℤ) → length (decimal (halfFlag (pos (modZ last 4)))) ≤
 half-most last = natural-most 0 _ (omega (arith, mod-below {m = 4} (lit< tt) last, div-add-mod' (modZ last 4) 2))
 
 strength-most : {last : ℤ} → SFits w32 last → length (decimal (shrZ last 4)) ≤ 10
-strength-most {last} f = signed-most 8 (shrZ last 4) (omega (arith, range f, floor-low {m = 4} (lit< tt) last, floor-high {m = 4} (lit< tt) last, abs-is (shrZ last 4)))
+strength-most {last} f = signed-most 8 (shrZ last 4) (omega (
+  arith,
+  range f,
+  floor-low {m = 4} (lit< tt) last,
+  floor-high {m = 4} (lit< tt) last,
+  abs-is
+      (shrZ last 4),
+))
 
 sum-of-ten : (a b c d e f g h i j : List ℕ) →
     length (a ++ b ++ c ++ d ++ e ++ f ++ g ++ h ++ i ++ j)
@@ -138,7 +145,8 @@ module _ (file : List ℕ) (holds : isPlanFile file ≡ true) (narrow : wideFile
       let fits : ltb room (length (headText (headOf file))) ≡ false = le-ltb room (length (headText (headOf file))) (omega (arith, head-most file holds)) in
       rw (holds, fits, narrow)
 
-  pub line-fits : (number : ℕ) → number < natAbs (trailerOf file .count) → 131 ≤ room → lineAnswer file number room ≡ written.Length (length (lineOf file number))
+  pub line-fits : (number : ℕ) → number < natAbs (trailerOf file .count) → 131 ≤ room →
+      lineAnswer file number room ≡ written.Length (length (lineOf file number))
   unfolding lineAnswer
   line-fits number there enough =
       let k = served file holds in

@@ -1,6 +1,6 @@
 -- 01, "Plan file": "Form 1: records of 12 little-endian words from byte 0, then a trailer of eight words that points back: bytes back to the first record
--- (48 x count), count, width, height, pel, radius, SATD 0 or 1, form 1. Bytes back + 32 is the file's length. Size, pel and radius are inside the limits above."
--- The limits: "Block 8x8, 16x8 or 16x16", "Pel 1, 2 or 4", a radius of at most 3. Definitions alone.
+-- (48 x count), count, width, height, pel, radius, SATD 0 or 1, form 1. Bytes back + 32 is the file's length. Size, pel and radius are inside the limits
+-- above." The limits: "Block 8x8, 16x8 or 16x16", "Pel 1, 2 or 4", a radius of at most 3. Definitions alone.
 use mathlib.Core.Bool.{Bool, cond, _&&_}
 use mathlib.Core.List.{List}
 use Prim.Native.Nat.{ℕ, zero, suc, _+_, _-_, _*_}

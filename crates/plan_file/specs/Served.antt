@@ -48,7 +48,8 @@ lengths-say back count bytes enough e =
 
 -- the trailer's rules, one by one
 trailer-says : (t : Trailer) (bytes : ℕ) → trailerHolds t bytes ≡ true →
-    (lengthsHold (t .back) (t .count) bytes ≡ true) × (isBlock (t .width) (t .height) ≡ true) × (isPel (t .pel) ≡ true) × (liesIn (pos 0) (pos 3) (t .radius) ≡ true)
+    (lengthsHold (t .back) (t .count) bytes ≡ true) × (isBlock (t .width) (t .height) ≡ true) × (isPel (t .pel) ≡ true) ×
+    (liesIn (pos 0) (pos 3) (t .radius) ≡ true)
 unfolding trailerHolds
 trailer-says t bytes e =
     let a = six-of (lengthsHold (t .back) (t .count) bytes) (isBlock (t .width) (t .height)) (isPel (t .pel)) (liesIn (pos 0) (pos 3) (t .radius))
@@ -92,7 +93,8 @@ module _ (file : List ℕ) where
 apart : {h : Head} {n : ℕ} → plan.Refused n ≡ plan.Accepted h → ⊥
 apart e = let z : _≡_ {A = ℕ} 0 1 = cc in omega arith
 
-by-tests : (p w : Bool) (x h : Head) → cond p (cond w (plan.Refused 7) (plan.Accepted x)) (plan.Refused 8) ≡ plan.Accepted h → (p ≡ true) × (w ≡ false) × (x ≡ h)
+by-tests : (p w : Bool) (x h : Head) → cond p (cond w (plan.Refused 7) (plan.Accepted x)) (plan.Refused 8) ≡ plan.Accepted h →
+    (p ≡ true) × (w ≡ false) × (x ≡ h)
 by-tests true true x h e = absurd (apart e)
 by-tests true false x h e = (refl, refl, cc)
 by-tests false w x h e = absurd (apart e)

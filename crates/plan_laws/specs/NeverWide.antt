@@ -16,7 +16,8 @@ use Rattle.plan_laws.specs.Windows.{planned-narrow}
 use Rattle.plan_laws.specs.ReadBack.{planned, record-read}
 
 module _ (s : Settings) (order vectors : List ℤ) where
-  pub never-wide : (n : ℕ) (tail : List ℤ) → allFit s order vectors n ≡ true → anyWide (radiusOf (s .search .«search_param»)) (wordsUpto s order vectors n ++ tail) n ≡ false
+  pub never-wide : (n : ℕ) (tail : List ℤ) → allFit s order vectors n ≡ true →
+      anyWide (radiusOf (s .search .«search_param»)) (wordsUpto s order vectors n ++ tail) n ≡ false
   never-wide n tail fit =
       none-passes (λ i. isWide (radiusOf (s .search .«search_param»)) (recordAt (wordsUpto s order vectors n ++ tail) i)) n
       (λ i l.

@@ -42,7 +42,8 @@ module _ (s : Settings) (order vectors : List ℤ) where
   abbrev pub planned : ℕ → Record
   planned i = stepOf s (blockAt (s .grid) order vectors i) (slotsAt s order vectors i) .made
 
-  last-read : (i : ℕ) (tail : List ℤ) → recordFits (planned i) ≡ true → recordAt (wordsUpto s order vectors i ++ wordList (turnOf s order vectors i .words) ++ tail) i ≡ planned i
+  last-read : (i : ℕ) (tail : List ℤ) → recordFits (planned i) ≡ true →
+      recordAt (wordsUpto s order vectors i ++ wordList (turnOf s order vectors i .words) ++ tail) i ≡ planned i
   unfolding recordAt turnAt
   last-read i tail fits =
       ap recordOf (words-read (wordsUpto s order vectors i) (recordWords (planned i)) tail (12 * i) (words-long s order vectors i)) ∙ back (planned i) fits
@@ -56,5 +57,6 @@ module _ (s : Settings) (order vectors : List ℤ) where
       let last = right-of (allFit s order vectors n) (turnOf s order vectors n .fits) e in
       ⊎-elim
       (λ h. ap (λ (k : List ℤ). recordAt k i) (append-assoc (wordsUpto s order vectors n) words tail) ∙ record-read n i (words ++ tail) h before)
-      (λ h. let same : n ≡ i = omega arith in subst (λ (k : ℕ). recordAt (wordsUpto s order vectors n ++ words ++ tail) k ≡ planned k) same (last-read n tail last))
+      (λ h. let same : n ≡ i = omega arith in subst (λ (k : ℕ). recordAt (wordsUpto s order vectors n ++ words ++ tail) k ≡ planned k) same
+      (last-read n tail last))
       (lt-or-ge i n)

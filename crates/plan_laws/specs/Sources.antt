@@ -90,7 +90,8 @@ written {t} s h e l = by (t .«one_active») refl
         record { zero-paired = h .zero-paired; one-paired = e; zero-lit = λ k. h .zero-lit q } in
         rw q (record { handed = kept; zero-lit = h .zero-lit q; active-lit = l })
     by false q =
-        let kept : Handed (record { zero = s; one = t .one; «one_active» = false }) = record { zero-paired = e; one-paired = h .one-paired; zero-lit = λ k. l } in
+        let kept : Handed (record { zero = s; one = t .one; «one_active» = false }) =
+        record { zero-paired = e; one-paired = h .one-paired; zero-lit = λ k. l } in
         rw q (record { handed = kept; zero-lit = l; active-lit = l })
 
 luma-in : (negative : Bool) (at : ℤ) {t : Slots} → Handed t → Written (lumaInActive negative at t)
@@ -158,7 +159,8 @@ step-handed s b {t} k = by (isBad (s .weights) (h .negative) (b .sad)) (s .level
     lambda = lambdaOf (s .weights) (shapeOf s b .negative)
 
     by : (bad need : Bool) →
-        Handed (cond bad (badStep (s .planes) (s .shift) b h lambda t) (cond need (lumaStep (s .planes .luma) b h lambda t) (quietStep b (h .negative) lambda t)) .slots)
+        Handed (cond bad (badStep (s .planes) (s .shift) b h lambda t)
+        (cond need (lumaStep (s .planes .luma) b h lambda t) (quietStep b (h .negative) lambda t)) .slots)
     by true need = bad-step-sources (s .planes) (s .shift) b h lambda k .0
     by false true = luma-step-handed (s .planes .luma) b h lambda k
     by false false = k

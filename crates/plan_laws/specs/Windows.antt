@@ -45,7 +45,16 @@ window-narrow a place =
     let w = windowOf a place in
     let low = window-from a place in
     let high = window-to a place in
-    omega (signed, add-is (a .predictor) (a .radius), diff-is (a .predictor) (a .radius), diff-is (w .second) (w .first), add-is (w .second -ℤ w .first) (pos 1), times-is (a .radius) 2, add-is (a .radius *ℤ pos 2) (pos 1))
+    omega (
+      signed,
+      add-is (a .predictor) (a .radius),
+      diff-is (a .predictor) (a .radius),
+      diff-is (w .second) (w .first),
+      add-is (w .second -ℤ w .first)
+          (pos 1),
+      times-is (a .radius) 2,
+      add-is (a .radius *ℤ pos 2) (pos 1),
+    )
 
 neither-wide : (most x y : ℤ) → ltZ most x ≡ false → ltZ most y ≡ false → windowWide most x y ≡ false
 neither-wide most x y p q = rw (p, q) (none (ltZ (pos 0) x && ltZ (pos 0) y))
@@ -94,7 +103,8 @@ module _ (s : Settings) (b : Block) (t : Slots) where
       by : (bad need : Bool) →
           isWide (radiusOf (s .search .«search_param»))
           (cond bad (badStep (s .planes) (s .shift) b (shapeOf s b) (lambdaOf (s .weights) (shapeOf s b .negative)) t)
-          (cond need (lumaStep (s .planes .luma) b (shapeOf s b) (lambdaOf (s .weights) (shapeOf s b .negative)) t) (quietStep b (shapeOf s b .negative) (lambdaOf (s .weights) (shapeOf s b .negative)) t)) .made) ≡ false
+          (cond need (lumaStep (s .planes .luma) b (shapeOf s b) (lambdaOf (s .weights) (shapeOf s b .negative)) t)
+          (quietStep b (shapeOf s b .negative) (lambdaOf (s .weights) (shapeOf s b .negative)) t)) .made) ≡ false
       by true need = bad-narrow (lambdaOf (s .weights) (shapeOf s b .negative))
       by false true = quiet-narrow (radiusOf (s .search .«search_param»)) b (shapeOf s b .negative) (lambdaOf (s .weights) (shapeOf s b .negative)) _
       by false false = quiet-narrow (radiusOf (s .search .«search_param»)) b (shapeOf s b .negative) (lambdaOf (s .weights) (shapeOf s b .negative)) _

@@ -12,7 +12,8 @@ use Rattle.distance.specs.Sums.{sum-eq}
 use Rattle.plane.specs.Samples.{nth, gathered, log2, total}
 use Rattle.plane.specs.Reads.{zeros-at, gathered-block}
 
-pub total-gathered : (w h : ℕ) (block : Block) → w ≤ 16 → h ≤ 16 → (out : List ℕ) → out ≡ gathered (h * w) (nth w block) → sad w h (blockOf out w) (blockOf (replicate 256 0) w) ≡ total w h block
+pub total-gathered : (w h : ℕ) (block : Block) → w ≤ 16 → h ≤ 16 → (out : List ℕ) → out ≡ gathered (h * w) (nth w block) →
+    sad w h (blockOf out w) (blockOf (replicate 256 0) w) ≡ total w h block
 total-gathered w h block k l out e =
     ap (λ (s : List ℕ). sad w h (blockOf s w) (blockOf (replicate 256 0) w)) e
     ∙ sum-eq h (λ y m. sum-eq w (λ x n. rw (gathered-block w h block k l y x m n, zeros-at (y * w + x)) (omega arith)))

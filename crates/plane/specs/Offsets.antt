@@ -50,7 +50,8 @@ pub whole-pel : (p : Place) (x y : ℤ) → p .pel ≡ pos 1 → subpelOf p x y 
 unfolding subpelOf
 whole-pel p x y e = one (natAbs (p .pel)) (p .pel) (ap natAbs e) e
   where
-    one : (n : ℕ) (pel : ℤ) → n ≡ 1 → pel ≡ pos 1 → pel1Of p (shrZ x n) (shrZ y n) +ℤ (pos (modZ x n) +ℤ pel *ℤ pos (modZ y n)) *ℤ p .pitch *ℤ p .height ≡ pel1Of p x y
+    one : (n : ℕ) (pel : ℤ) → n ≡ 1 → pel ≡ pos 1 → pel1Of p (shrZ x n) (shrZ y n) +ℤ (pos (modZ x n) +ℤ pel *ℤ pos (modZ y n)) *ℤ p .pitch *ℤ p .height
+        ≡ pel1Of p x y
     one n pel d e = simp (d, e, shr-1) (nothing-added (pel1Of p x y) (p .pitch) (p .height) (modZ x 1) (modZ y 1) (mod-1 x) (mod-1 y))
 
 -- ---- every offset of a plane is near
@@ -125,7 +126,23 @@ module _ (base n : ℕ) (rows width : ℤ) where
       by : (t : Bool) → leb base room ≡ t → t ≡ leZ (pos base +ℤ rows +ℤ width) (pos n)
       by true k =
           let l = leb-true base room k in
-          sym (omega (signed, abs-is (pos n -ℤ (rows +ℤ width)), diff-is (pos n) (rows +ℤ width), add-is rows width, add-is (pos base) rows, add-is (pos base +ℤ rows) width))
+          sym (omega (
+            signed,
+            abs-is (pos n -ℤ (rows +ℤ width)),
+            diff-is (pos n) (rows +ℤ width),
+            add-is rows width,
+            add-is (pos base) rows,
+            add-is
+                (pos base +ℤ rows) width,
+          ))
       by false k =
           let l = leb-false base room k in
-          sym (omega (signed, abs-is (pos n -ℤ (rows +ℤ width)), diff-is (pos n) (rows +ℤ width), add-is rows width, add-is (pos base) rows, add-is (pos base +ℤ rows) width))
+          sym (omega (
+            signed,
+            abs-is (pos n -ℤ (rows +ℤ width)),
+            diff-is (pos n) (rows +ℤ width),
+            add-is rows width,
+            add-is (pos base) rows,
+            add-is
+                (pos base +ℤ rows) width,
+          ))

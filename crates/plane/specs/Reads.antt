@@ -57,7 +57,8 @@ module _ (s : List ℕ) (bytes : (n : ℕ) → getD s n 0 < 256) where
   source-byte pitch full Absent w h b = placed-byte full pitch (b / w) (b % w)
 
 -- a block whose first sample is not before the data is one of the slice from there on, as `&s[at..]` lends it
-pub block-in-place : (s : List ℕ) (at : ℤ) (pitch : ℕ) → leZ (pos 0) at ≡ true → (y x : ℕ) → blockOf (take (length s - natAbs at) (drop (natAbs at) s)) pitch y x ≡ placedAt s at pitch y x
+pub block-in-place : (s : List ℕ) (at : ℤ) (pitch : ℕ) → leZ (pos 0) at ≡ true → (y x : ℕ) →
+    blockOf (take (length s - natAbs at) (drop (natAbs at) s)) pitch y x ≡ placedAt s at pitch y x
 block-in-place s (pos n) pitch e y x = tail-block s n pitch y x ∙ sym (sample-from-front s (n + (y * pitch + x)))
 block-in-place s (negsuc n) pitch e y x = absurd (omega signed)
 
@@ -93,7 +94,8 @@ pub zeros-at : (b : ℕ) → getD {A = ℕ} (replicate 256 0) b 0 ≡ 0
 zeros-at b =
     ⊎-elim
     (λ (l : b < 256). getD-replicate {A = ℕ} 256 b 0 0 l)
-    (λ (l : 256 ≤ b). let past : length {A = ℕ} (replicate 256 0) ≤ b = omega (arith, length-replicate {A = ℕ} 256 0) in List·getD-eq-default {A = ℕ} (replicate 256 0) 0 past)
+    (λ (l : 256 ≤ b). let past : length {A = ℕ} (replicate 256 0) ≤ b = omega (arith, length-replicate {A = ℕ} 256 0) in
+    List·getD-eq-default {A = ℕ} (replicate 256 0) 0 past)
     (lt-or-ge b 256)
 
 -- zeros gathered are zeros
@@ -125,11 +127,14 @@ gathered-block w h block k l y x m n = gathered-rows w h (nth w block) k l y x m
 
 -- ---- costs against either
 module _ (measure : Bool) (w h : ℕ) (a : Block) where
-  pub cost-gathered : (block : Block) → w ≤ 16 → h ≤ 16 → (out : List ℕ) → out ≡ gathered (h * w) (nth w block) → costOf measure w h a (blockOf out w) ≡ costOf measure w h a block
+  pub cost-gathered : (block : Block) → w ≤ 16 → h ≤ 16 → (out : List ℕ) → out ≡ gathered (h * w) (nth w block) →
+      costOf measure w h a (blockOf out w) ≡ costOf measure w h a block
   cost-gathered block k l out e =
       ap (λ (s : List ℕ). costOf measure w h a (blockOf s w)) e
       ∙ cost-same w h a a (blockOf (gathered (h * w) (nth w block)) w) block (λ y x m n. refl) (gathered-block w h block k l) measure
 
-  pub cost-in-place : (s : List ℕ) (at : ℤ) (pitch : ℕ) → leZ (pos 0) at ≡ true → costOf measure w h a (blockOf (take (length s - natAbs at) (drop (natAbs at) s)) pitch) ≡ costOf measure w h a (placedAt s at pitch)
+  pub cost-in-place : (s : List ℕ) (at : ℤ) (pitch : ℕ) → leZ (pos 0) at ≡ true →
+      costOf measure w h a (blockOf (take (length s - natAbs at) (drop (natAbs at) s)) pitch) ≡ costOf measure w h a (placedAt s at pitch)
   cost-in-place s at pitch e =
-      cost-same w h a a (blockOf (take (length s - natAbs at) (drop (natAbs at) s)) pitch) (placedAt s at pitch) (λ y x m n. refl) (λ y x m n. block-in-place s at pitch e y x) measure
+      cost-same w h a a (blockOf (take (length s - natAbs at) (drop (natAbs at) s)) pitch) (placedAt s at pitch) (λ y x m n. refl)
+      (λ y x m n. block-in-place s at pitch e y x) measure

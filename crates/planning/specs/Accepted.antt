@@ -36,7 +36,22 @@ use Rattle.passes.specs.Asked.{Listed, Serves, Served}
 use Rattle.planning.specs.declared.Made.{Made}
 use Rattle.planning.specs.declared.Planned.the-variants.{Done, Refused}
 use Rattle.planning.specs.Planned.{answered}
-use Rattle.planning.specs.Refusals.{blockCount, holds1, axisHolds, sidesHold, chromaHolds, planesHold, holds2, vectorFits, vectorsFit, holds3, entryHolds, orderHolds, hasRoom, refusalOf}
+use Rattle.planning.specs.Refusals.{
+  blockCount,
+  holds1,
+  axisHolds,
+  sidesHold,
+  chromaHolds,
+  planesHold,
+  holds2,
+  vectorFits,
+  vectorsFit,
+  holds3,
+  entryHolds,
+  orderHolds,
+  hasRoom,
+  refusalOf,
+}
 
 -- ---- a number from least to greatest, both ways of saying it
 lies : (least greatest z : ℤ) → liesIn least greatest z ≡ true → (least ≤ℤ z) × (z ≤ℤ greatest)
@@ -107,7 +122,11 @@ shifted-least z s low high = by (ltZ s (pos 1))
   where
     by : (t : Bool) → (pos 1 ≤ℤ cond t z (shrZ z 2)) × (cond t z (shrZ z 2) ≤ℤ pos 16384)
     by true = (omega signed, omega signed)
-    by false = (omega (signed, floor-low {m = 2} (lit< tt) z, floor-high {m = 2} (lit< tt) z), omega (signed, floor-low {m = 2} (lit< tt) z, floor-high {m = 2} (lit< tt) z))
+    by false = (
+      omega (signed, floor-low {m = 2} (lit< tt) z, floor-high {m = 2} (lit< tt) z),
+      omega
+          (signed, floor-low {m = 2} (lit< tt) z, floor-high {m = 2} (lit< tt) z),
+    )
 
 ends-in : (p : Place) (n : ℕ) → keepsLength p n ≡ true → lastEnd p ≤ℤ pos 1073741823
 ends-in p n e =
@@ -119,7 +138,8 @@ lying : (p : Place) (n : ℕ) {width height : ℤ} → limitsHold p ≡ true →
     pos 1 ≤ℤ width → pos 1 ≤ℤ height → height ≤ℤ pos 16384 → Lies p width height
 lying p n {width} {height} limits kept w h wide tall low =
     record {
-      placed = accepted-placed p n limits kept (subst (λ (z : ℤ). pos 1 ≤ℤ z) (sym w) wide) (subst (λ (z : ℤ). pos 1 ≤ℤ z) (sym h) tall) (subst (λ (z : ℤ). z ≤ℤ pos 16384) (sym h) low);
+      placed = accepted-placed p n limits kept (subst (λ (z : ℤ). pos 1 ≤ℤ z) (sym w) wide) (subst (λ (z : ℤ). pos 1 ≤ℤ z) (sym h) tall)
+          (subst (λ (z : ℤ). z ≤ℤ pos 16384) (sym h) low);
       end = ends-in p n kept;
       width-is = w;
       height-is = h;
@@ -138,8 +158,10 @@ pub record Set (s : Settings) : Type 0 where
 pub settings : (s : Settings) (listed held : ℕ) → holds1 s listed ≡ true → holds2 s held ≡ true → Set s
 unfolding holds1 holds2
 settings s listed held e f =
-    let t = six-of (s .search .exhaustive) (isBlock (s .block .x) (s .block .y)) (leZ (pos 2) (s .grid .x)) (leZ (pos 2) (s .grid .y)) (eqb listed (2 * blockCount (s .grid))) (liesIn (negsuc 2) (pos 3) (s .search .«search_param»)) e in
-    let u = five-of (sidesHold s) (isPel (s .level .pel)) (areShifts (s .shift .x) (s .shift .y)) (planesHold (s .planes) (s .shift)) (eqb held (3 * blockCount (s .grid))) f in
+    let t = six-of (s .search .exhaustive) (isBlock (s .block .x) (s .block .y)) (leZ (pos 2) (s .grid .x)) (leZ (pos 2) (s .grid .y))
+    (eqb listed (2 * blockCount (s .grid))) (liesIn (negsuc 2) (pos 3) (s .search .«search_param»)) e in
+    let u = five-of (sidesHold s) (isPel (s .level .pel)) (areShifts (s .shift .x) (s .shift .y)) (planesHold (s .planes) (s .shift))
+    (eqb held (3 * blockCount (s .grid))) f in
     let x = axisHolds (s .grid .x) (s .step .x) (s .block .x) (s .planes .luma .width) in
     let y = axisHolds (s .grid .y) (s .step .y) (s .block .y) (s .planes .luma .height) in
     let sides = block-sides (s .block .x) (s .block .y) (t .1) in
@@ -169,13 +191,15 @@ pub listed-is : (s : Settings) (listed : ℕ) → holds1 s listed ≡ true → l
 unfolding holds1
 listed-is s listed e =
     eqb-true listed (2 * blockCount (s .grid))
-    (six-of (s .search .exhaustive) (isBlock (s .block .x) (s .block .y)) (leZ (pos 2) (s .grid .x)) (leZ (pos 2) (s .grid .y)) (eqb listed (2 * blockCount (s .grid))) (liesIn (negsuc 2) (pos 3) (s .search .«search_param»)) e .4)
+    (six-of (s .search .exhaustive) (isBlock (s .block .x) (s .block .y)) (leZ (pos 2) (s .grid .x)) (leZ (pos 2) (s .grid .y))
+    (eqb listed (2 * blockCount (s .grid))) (liesIn (negsuc 2) (pos 3) (s .search .«search_param»)) e .4)
 
 pub held-is : (s : Settings) (held : ℕ) → holds2 s held ≡ true → held ≡ 3 * blockCount (s .grid)
 unfolding holds2
 held-is s held e =
     eqb-true held (3 * blockCount (s .grid))
-    (five-of (sidesHold s) (isPel (s .level .pel)) (areShifts (s .shift .x) (s .shift .y)) (planesHold (s .planes) (s .shift)) (eqb held (3 * blockCount (s .grid))) e .4)
+    (five-of (sidesHold s) (isPel (s .level .pel)) (areShifts (s .shift .x) (s .shift .y)) (planesHold (s .planes) (s .shift))
+    (eqb held (3 * blockCount (s .grid))) e .4)
 
 -- ---- an entry of the order
 pub record Entry (grid : Sides) (order : List ℤ) (i : ℕ) : Type 0 where
@@ -224,7 +248,8 @@ served s order vectors luma u v e₁ e₂ e₂′ e₃ e₄ i l =
     let fit = each-passes (vectorFits vectors) (blockCount (s .grid)) n e₂′ m in
     let px = lies (negsuc 32767) (pos 32767) vx (left-of (fitsI16 vx) (fitsI16 vy) fit) in
     let py = lies (negsuc 32767) (pos 32767) vy (right-of (fitsI16 vx) (fitsI16 vy) fit) in
-    let t = five-of (limitsHold (p .luma)) (limitsHold (p .u)) (limitsHold (p .v)) (chromaHolds (p .luma) (s .shift) (p .u)) (chromaHolds (p .luma) (s .shift) (p .v)) (k .planes) in
+    let t = five-of (limitsHold (p .luma)) (limitsHold (p .u)) (limitsHold (p .v)) (chromaHolds (p .luma) (s .shift) (p .u))
+    (chromaHolds (p .luma) (s .shift) (p .v)) (k .planes) in
     let lengths = three-of (keepsLength (p .luma) luma) (keepsLength (p .u) u) (keepsLength (p .v) v) e₃ in
     let width = p .luma .width in
     let height = p .luma .height in
@@ -299,7 +324,8 @@ pub record Accepted (s : Settings) (order vectors : List ℤ) (words indices : �
   pub set : Set s
   pub held : length vectors ≡ 3 * blockCount (s .grid)
 
-pub accepted : (s : Settings) (order vectors : List ℤ) (luma u v words indices : ℕ) → refusalOf s order vectors luma u v words indices ≡ 0 → Accepted s order vectors words indices
+pub accepted : (s : Settings) (order vectors : List ℤ) (luma u v words indices : ℕ) → refusalOf s order vectors luma u v words indices ≡ 0 →
+    Accepted s order vectors words indices
 unfolding refusalOf
 accepted s order vectors luma u v words indices e =
     let n = blockCount (s .grid) in

@@ -21,7 +21,8 @@ pub record Exactly (one two three four five six : Bool) (number : ℕ) : Type 0 
   pub is-6 : eqb number 6 ≡ (not one && not two && not three && not four && not five && six)
   pub is-0 : eqb number 0 ≡ (not one && not two && not three && not four && not five && not six)
 
-exactly : (one two three four five six : Bool) → Exactly one two three four five six (first one 1 (first two 2 (first three 3 (first four 4 (first five 5 (first six 6 0))))))
+exactly : (one two three four five six : Bool) → Exactly one two three four five six
+    (first one 1 (first two 2 (first three 3 (first four 4 (first five 5 (first six 6 0))))))
 exactly true two three four five six = record { is-1 = refl; is-2 = refl; is-3 = refl; is-4 = refl; is-5 = refl; is-6 = refl; is-0 = refl }
 exactly false true three four five six = record { is-1 = refl; is-2 = refl; is-3 = refl; is-4 = refl; is-5 = refl; is-6 = refl; is-0 = refl }
 exactly false false true four five six = record { is-1 = refl; is-2 = refl; is-3 = refl; is-4 = refl; is-5 = refl; is-6 = refl; is-0 = refl }
@@ -32,9 +33,11 @@ exactly false false false false false false = record { is-1 = refl; is-2 = refl;
 
 pub given-exactly : (s : Settings) (order vectors : List ℤ) (luma u v words indices : ℕ) →
     Exactly (not (holds1 s (length order))) (not (holds2 s (length vectors) && vectorsFit vectors (blockCount (s .grid)))) (not (holds3 (s .planes) luma u v))
-    (not (orderHolds (s .grid) order (blockCount (s .grid)))) (not (hasRoom (blockCount (s .grid)) words indices)) (not (allFit s order vectors (blockCount (s .grid))))
+    (not (orderHolds (s .grid) order (blockCount (s .grid)))) (not (hasRoom (blockCount (s .grid)) words indices))
+    (not (allFit s order vectors (blockCount (s .grid))))
     (refusalOf s order vectors luma u v words indices)
 unfolding refusalOf
 given-exactly s order vectors luma u v words indices =
     exactly (not (holds1 s (length order))) (not (holds2 s (length vectors) && vectorsFit vectors (blockCount (s .grid)))) (not (holds3 (s .planes) luma u v))
-    (not (orderHolds (s .grid) order (blockCount (s .grid)))) (not (hasRoom (blockCount (s .grid)) words indices)) (not (allFit s order vectors (blockCount (s .grid))))
+    (not (orderHolds (s .grid) order (blockCount (s .grid)))) (not (hasRoom (blockCount (s .grid)) words indices))
+    (not (allFit s order vectors (blockCount (s .grid))))

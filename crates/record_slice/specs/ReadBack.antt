@@ -10,4 +10,5 @@ use Rattle.records.specs.RoundTrip.{Held, pair-of-word}
 pub unpacked-pairs-fit : (w : Words) → Held w → pairsFit (recordOf w) ≡ true
 unfolding recordOf
 unpacked-pairs-fit w h =
-    both-of (both-of (both-of (both-of (pair-of-word (h .pos)) (pair-of-word (h .cpos))) (pair-of-word (h .predictor))) (pair-of-word (h .window-x))) (pair-of-word (h .window-y))
+    both-of (both-of (both-of (both-of (pair-of-word (h .pos)) (pair-of-word (h .cpos))) (pair-of-word (h .predictor))) (pair-of-word (h .window-x)))
+    (pair-of-word (h .window-y))

@@ -1,4 +1,5 @@
--- Values put together of equal parts are equal. Each lemma is over plain variables, where `cc` sees at once what it would have to dig for at a place of the code.
+-- Values put together of equal parts are equal. Each lemma is over plain variables, where `cc` sees at once what it would have to dig for at a place of the
+-- code.
 use mathlib.Core.Path.{_≡_}
 use lib.IntN.{ℤ}
 use Rattle.records.specs.declared.Offset.{Offset}
@@ -19,6 +20,34 @@ alike-words p₀ p₁ p₂ p₃ p₄ p₅ p₆ p₇ p₈ p₉ q₀ q₁ = cc
 pub alike-records : {a b c d e A B C D E : Offset} {f g h i j F G H I J : Pair} {k l m K L M : ℤ} →
     a ≡ A → b ≡ B → c ≡ C → d ≡ D → e ≡ E → f ≡ F → g ≡ G → h ≡ H → i ≡ I → j ≡ J → k ≡ K → l ≡ L → m ≡ M →
     _≡_ {A = Record}
-    (record { full = a; overlay = b; u = c; v = d; average = e; pos = f; cpos = g; predictor = h; «window_x» = i; «window_y» = j; sad = k; lambda = l; flags = m })
-    (record { full = A; overlay = B; u = C; v = D; average = E; pos = F; cpos = G; predictor = H; «window_x» = I; «window_y» = J; sad = K; lambda = L; flags = M })
+    (record {
+      full = a;
+      overlay = b;
+      u = c;
+      v = d;
+      average = e;
+      pos = f;
+      cpos = g;
+      predictor = h;
+      «window_x» = i;
+      «window_y» = j;
+      sad = k;
+      lambda = l;
+      flags = m;
+    })
+    (record {
+      full = A;
+      overlay = B;
+      u = C;
+      v = D;
+      average = E;
+      pos = F;
+      cpos = G;
+      predictor = H;
+      «window_x» = I;
+      «window_y» = J;
+      sad = K;
+      lambda = L;
+      flags = M;
+    })
 alike-records p₀ p₁ p₂ p₃ p₄ p₅ p₆ p₇ p₈ p₉ q₀ q₁ q₂ = cc

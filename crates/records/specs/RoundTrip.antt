@@ -21,7 +21,21 @@ use Rattle.records.specs.declared.Pair.{Pair}
 use Rattle.records.specs.declared.Record.{Record}
 use Rattle.records.specs.declared.Words.{Words}
 use Rattle.records.specs.declared.Packed.the-variants as answers
-use Rattle.records.specs.Packing.{absentWord, offsetWord, offsetFits, pairFits, pairWord, lambdaFits, lastFits, lastWord, offsetsFit, pairsFit, recordFits, recordWords, packedRecord}
+use Rattle.records.specs.Packing.{
+  absentWord,
+  offsetWord,
+  offsetFits,
+  pairFits,
+  pairWord,
+  lambdaFits,
+  lastFits,
+  lastWord,
+  offsetsFit,
+  pairsFit,
+  recordFits,
+  recordWords,
+  packedRecord,
+}
 use Rattle.records.specs.Alike.{alike-pairs, alike-words, alike-records}
 use Rattle.records.specs.Unpacking.{offsetOf, pairOf, recordOf}
 
@@ -144,8 +158,10 @@ pub back : (r : Record) → recordFits r ≡ true → recordOf (recordWords r) �
 unfolding recordFits recordWords recordOf
 back r fits =
     let parts = left-of (offsetsFit r && pairsFit r) (lastFits (r .lambda) (r .flags)) fits in
-    let o = five-of (offsetFits (r .full)) (offsetFits (r .overlay)) (offsetFits (r .u)) (offsetFits (r .v)) (offsetFits (r .average)) (left-of (offsetsFit r) (pairsFit r) parts) in
-    let p = five-of (pairFits (r .pos)) (pairFits (r .cpos)) (pairFits (r .predictor)) (pairFits (r .«window_x»)) (pairFits (r .«window_y»)) (right-of (offsetsFit r) (pairsFit r) parts) in
+    let o = five-of (offsetFits (r .full)) (offsetFits (r .overlay)) (offsetFits (r .u)) (offsetFits (r .v)) (offsetFits (r .average))
+    (left-of (offsetsFit r) (pairsFit r) parts) in
+    let p = five-of (pairFits (r .pos)) (pairFits (r .cpos)) (pairFits (r .predictor)) (pairFits (r .«window_x»)) (pairFits (r .«window_y»))
+    (right-of (offsetsFit r) (pairsFit r) parts) in
     let l = last-back (r .lambda) (r .flags) (right-of (offsetsFit r && pairsFit r) (lastFits (r .lambda) (r .flags)) fits) in
     alike-records
     (offset-back (r .full) (o .0))
@@ -196,8 +212,10 @@ words-back w h =
 pub unpacked-fits : (w : Words) → Held w → recordFits (recordOf w) ≡ lambdaFits (shrZ (w .last) 4)
 unfolding recordFits recordOf
 unpacked-fits w h =
-    let offsets = both-of (both-of (both-of (both-of (offset-of-word (h .full)) (offset-of-word (h .overlay))) (offset-of-word (h .u))) (offset-of-word (h .v))) (offset-of-word (h .average)) in
-    let pairs = both-of (both-of (both-of (both-of (pair-of-word (h .pos)) (pair-of-word (h .cpos))) (pair-of-word (h .predictor))) (pair-of-word (h .window-x))) (pair-of-word (h .window-y)) in
+    let offsets = both-of (both-of (both-of (both-of (offset-of-word (h .full)) (offset-of-word (h .overlay))) (offset-of-word (h .u)))
+    (offset-of-word (h .v))) (offset-of-word (h .average)) in
+    let pairs = both-of (both-of (both-of (both-of (pair-of-word (h .pos)) (pair-of-word (h .cpos))) (pair-of-word (h .predictor)))
+    (pair-of-word (h .window-x))) (pair-of-word (h .window-y)) in
     true-and (both-of offsets pairs) ∙ last-of-word (w .last)
 
 -- any 12 words are written again from the record that they hold, exactly where the lambda in the last of them fits

@@ -14,7 +14,8 @@ one-put l at v h = record { next-is = refl; stands = rw add-one (take-suc-set l 
 pub text-put : (l : List ℕ) (at : ℕ) (text : List ℕ) → at + length text ≤ length l → Puts l at text (laid l at text) (at + length text)
 text-put l at text h = record {
   next-is = refl;
-  stands = take-at (take at l ++ text) (drop (at + length text) l) (at + length text) (length-append (take at l) text ∙ omega (arith, length-take-le at l (omega arith)));
+  stands = take-at (take at l ++ text) (drop (at + length text) l) (at + length text)
+      (length-append (take at l) text ∙ omega (arith, length-take-le at l (omega arith)));
 }
 
 pub both-put : {l m o a b : List ℕ} {at n p : ℕ} → Puts l at a m n → Puts m n b o p → Puts l at (a ++ b) o p

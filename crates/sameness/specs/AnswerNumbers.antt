@@ -1,6 +1,6 @@
 -- 01, "Code places and their forms": "When an answer is an enum, the promises use a definition that gives this paper's number and values for each case of the
--- enum." An entry's contract names the case with its values. Here is the number of that case, for each entry whose answer is an enum: it is the table's, whatever
--- the input. Assumes nothing.
+-- enum." An entry's contract names the case with its values. Here is the number of that case, for each entry whose answer is an enum: it is the table's,
+-- whatever the input. Assumes nothing.
 use mathlib.Core.Path.{_≡_, refl}
 use mathlib.Core.Bool.{Bool, true, false, cond, not}
 use mathlib.Core.List.{List}

@@ -1,5 +1,5 @@
--- Laws of the entries, for every number given: an answer's number is that of the table, the block at the position that is answered is the block, the position of the
--- block that is answered is the position, and the order that is filled has at each position the block that is answered there. Assumes nothing.
+-- Laws of the entries, for every number given: an answer's number is that of the table, the block at the position that is answered is the block, the position
+-- of the block that is answered is the position, and the order that is filled has at each position the block that is answered there. Assumes nothing.
 use mathlib.Core.Path.{_≡_, refl, sym, ap, _∙_}
 use mathlib.Core.List.{List}
 use Prim.Native.Nat.{ℕ, zero, suc, _+_, _*_, _<_}
@@ -10,7 +10,19 @@ use Rattle.serpentine.specs.declared.Place.{Place}
 use Rattle.serpentine.specs.declared.Position.the-variants as position
 use Rattle.serpentine.specs.declared.Block.the-variants as block
 use Rattle.serpentine.specs.Walk.{at, blockAt, positionAt, filled}
-use Rattle.serpentine.specs.Answers.{answered, positionRefusal, blockRefusal, orderRefusal, positionGiven, positionAnswer, blockGiven, blockAnswer, orderAfter, positionNumber, blockNumber}
+use Rattle.serpentine.specs.Answers.{
+  answered,
+  positionRefusal,
+  blockRefusal,
+  orderRefusal,
+  positionGiven,
+  positionAnswer,
+  blockGiven,
+  blockAnswer,
+  orderAfter,
+  positionNumber,
+  blockNumber,
+}
 use Rattle.serpentine.specs.Walked.{block-inside, position-below, block-undoes-position, position-undoes-block}
 use Rattle.serpentine.specs.Filling.{filled-at}
 use Rattle.serpentine.specs.Served.{Inside, answer-refused, position-served, block-served, order-served, serves-position, serves-block}
@@ -25,7 +37,8 @@ module _ (nx ny bx by : ℤ) where
       go zero p = refl
       go (suc n) p = refl
 
-  pub position-done : positionRefusal nx ny bx by ≡ 0 → positionAnswer nx ny bx by ≡ positionGiven (positionAt (natAbs nx) (natAbs ny) (at (natAbs bx) (natAbs by)))
+  pub position-done : positionRefusal nx ny bx by ≡ 0 → positionAnswer nx ny bx by
+      ≡ positionGiven (positionAt (natAbs nx) (natAbs ny) (at (natAbs bx) (natAbs by)))
   unfolding positionAnswer
   position-done e = rw e
 
@@ -75,7 +88,8 @@ block-at-answered-position nx ny bx by p e =
     let X = served .1 .less in
     let Y = served .2 .less in
     let is : p ≡ pos (positionAt w h (at (natAbs bx) (natAbs by))) = inner-position (sym e ∙ position-done nx ny bx by number) in
-    let there = serves-block nx ny p (served .0) (omega (arith, ap natAbs is, position-below w h W H (natAbs bx) (natAbs by) X Y)) (ap (λ (z : ℤ). pos (natAbs z)) is ∙ sym is) in
+    let there = serves-block nx ny p (served .0) (omega (arith, ap natAbs is, position-below w h W H (natAbs bx) (natAbs by) X Y))
+    (ap (λ (z : ℤ). pos (natAbs z)) is ∙ sym is) in
     block-done nx ny p there
     ∙ ap blockGiven (ap (λ (z : ℤ). blockAt w h (natAbs z)) is ∙ block-undoes-position w h W H (natAbs bx) (natAbs by) X Y)
     ∙ alike (served .1 .place-is) (served .2 .place-is)

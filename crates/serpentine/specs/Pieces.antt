@@ -82,7 +82,8 @@ differ : (t : Bool) → (t ≡ true → ⊥) → t ≡ false
 differ true h = absurd (h refl)
 differ false h = refl
 
-pub before-first : (b : Place) (l : List Place) (k : ℕ) (d : Place) → k < length l → getD l k d ≡ b → ((j : ℕ) → j < k → getD l j d ≡ b → ⊥) → placesBefore b l ≡ k
+pub before-first : (b : Place) (l : List Place) (k : ℕ) (d : Place) → k < length l → getD l k d ≡ b → ((j : ℕ) → j < k → getD l j d ≡ b → ⊥) →
+    placesBefore b l ≡ k
 unfolding placesBefore
 before-first b [] k d h e first = absurd (omega arith)
 before-first b (a ∷ l) zero d h e first = rw (same-of a b e)
@@ -102,7 +103,8 @@ never-given b (a ∷ l) d none =
     let apart : same a b ≡ false = differ (same a b) (λ s. none 0 (omega arith) (same-is a b s)) in
     rw apart (never-given b l d (λ j m. none (suc j) (omega arith)))
 
-pub given-once : (b : Place) (l : List Place) (k : ℕ) (d : Place) → k < length l → getD l k d ≡ b → ((j : ℕ) → j < length l → getD l j d ≡ b → j ≡ k) → timesGiven b l ≡ 1
+pub given-once : (b : Place) (l : List Place) (k : ℕ) (d : Place) → k < length l → getD l k d ≡ b → ((j : ℕ) → j < length l → getD l j d ≡ b → j ≡ k) →
+    timesGiven b l ≡ 1
 unfolding timesGiven
 given-once b [] k d h e only = absurd (omega arith)
 given-once b (a ∷ l) zero d h e only =

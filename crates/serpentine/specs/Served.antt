@@ -132,7 +132,8 @@ not-outside count place e i =
     neither (ltZ-no! place (pos 0) (omega (arith, abs-is place))) (leZ-no! count place (omega (arith, abs-is place, abs-is count)))
 
 -- such a number is cast as it is
-pub natural-cast : {w : Width} {z : ℤ} → SFits w32 z → pos (natAbs z) ≡ z → natAbs z < 2 ^ bits w → T (nonNeg (toZ w32 (ofZ w32 z))) × Fits w (natAbs (toZ w32 (ofZ w32 z)))
+pub natural-cast : {w : Width} {z : ℤ} → SFits w32 z → pos (natAbs z) ≡ z → natAbs z < 2 ^ bits w →
+    T (nonNeg (toZ w32 (ofZ w32 z))) × Fits w (natAbs (toZ w32 (ofZ w32 z)))
 natural-cast f e h = simp toZ-ofZ (subst (λ (y : ℤ). T (nonNeg y)) e tt, record { fits = h })
 
 -- ---- who is served
@@ -154,7 +155,8 @@ module _ (nx ny : ℤ) where
   pub product-is : Grid nx ny → nx *ℤ ny ≡ pos (natAbs nx * natAbs ny)
   product-is g = λ i. sym (g .wide-is) i *ℤ sym (g .high-is) i
 
-  pub block-served : (position : ℤ) → blockRefusal nx ny position ≡ 0 → Grid nx ny × (natAbs position < natAbs nx * natAbs ny) × (pos (natAbs position) ≡ position)
+  pub block-served : (position : ℤ) → blockRefusal nx ny position ≡ 0 →
+      Grid nx ny × (natAbs position < natAbs nx * natAbs ny) × (pos (natAbs position) ≡ position)
   unfolding blockRefusal
   block-served position h =
       let g = grid-served nx ny (first (isOutside (nx *ℤ ny) position) 4 0) h in

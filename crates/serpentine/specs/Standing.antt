@@ -55,7 +55,8 @@ module _ (nx y : ℕ) where
         let l = right-long in
         let there : 1 + (length rightward - 1 - j) ≡ nx - 2 - j = omega arith in
         rw (ne-eqb (y % 2) 0 e)
-        (turned-at rightward j d (omega arith) ∙ singles-at (λ i. at (1 + i) y) (nx - 2) (length rightward - 1 - j) d (omega arith) ∙ ap (λ (z : ℕ). at z y) there)
+        (turned-at rightward j d (omega arith) ∙ singles-at (λ i. at (1 + i) y) (nx - 2) (length rightward - 1 - j) d (omega arith)
+        ∙ ap (λ (z : ℕ). at z y) there)
 
 -- ---- sums and products, over plain variables
 -- the interior, the top and the bottom row, and two ends of each row between
@@ -161,7 +162,8 @@ module _ (nx ny : ℕ) (W : 2 ≤ nx) (H : 2 ≤ ny) where
         ∙ List·getD-append caps ends d (x * 2 + j) (omega (arith, caps-long))
         ∙ each-at 2 (λ x. at x 0 ∷ at x (ny - 1) ∷ []) (λ i. refl) nx x j d X J
 
-    in-ends : (i j : ℕ) → i < ny - 2 → j < 2 → p ≡ interior nx ny + (2 * nx + (i * 2 + j)) → getD (walk nx ny) p d ≡ getD (at 0 (1 + i) ∷ at (nx - 1) (1 + i) ∷ []) j d
+    in-ends : (i j : ℕ) → i < ny - 2 → j < 2 → p ≡ interior nx ny + (2 * nx + (i * 2 + j)) →
+        getD (walk nx ny) p d ≡ getD (at 0 (1 + i) ∷ at (nx - 1) (1 + i) ∷ []) j d
     unfolding ends
     in-ends i j I J e =
         let here : p ≡ length rows + (length caps + (i * 2 + j)) = omega (arith, rows-long, caps-long) in
@@ -218,12 +220,14 @@ module _ (nx ny : ℕ) (W : 2 ≤ nx) (H : 2 ≤ ny) where
           let I : i < ny - 2 = div-lt-iff-lt-mul some .1 l in
           let J : j < nx - 2 = mod-lt p some in
           let e : p ≡ i * (nx - 2) + j = sym (div-add-mod' p (nx - 2)) in
-          ⊎-elim (λ even. (at (1 + j) (1 + i), forth i j I J even e refl)) (λ odd. (at (nx - 2 - j) (1 + i), back i j I J odd e refl)) (eq-or-ne ((1 + i) % 2) 0)
+          ⊎-elim (λ even. (at (1 + j) (1 + i), forth i j I J even e refl)) (λ odd. (at (nx - 2 - j) (1 + i), back i j I J odd e refl))
+          (eq-or-ne ((1 + i) % 2) 0)
 
       above : interior nx ny ≤ p → p < interior nx ny + 2 * nx → (b : Place) × Stands nx ny p b
       above l m =
           let x = (p - interior nx ny) / 2 in
-          ⊎-elim (λ e. (at x 0, top x (omega arith) (omega arith) refl)) (λ e. (at x (ny - 1), bottom x (omega arith) (omega arith) refl)) (halves (p - interior nx ny))
+          ⊎-elim (λ e. (at x 0, top x (omega arith) (omega arith) refl)) (λ e. (at x (ny - 1), bottom x (omega arith) (omega arith) refl))
+          (halves (p - interior nx ny))
 
       beyond : interior nx ny + 2 * nx ≤ p → (b : Place) × Stands nx ny p b
       beyond l =
@@ -231,7 +235,8 @@ module _ (nx ny : ℕ) (W : 2 ≤ nx) (H : 2 ≤ ny) where
           let i = t / 2 in
           let few : t < 2 * (ny - 2) = omega (arith, blocks-are nx ny W H) in
           let here : p ≡ interior nx ny + 2 * nx + t = omega arith in
-          ⊎-elim (λ e. (at 0 (1 + i), left i (omega arith) (omega arith) refl)) (λ e. (at (nx - 1) (1 + i), right i (omega arith) (omega arith) refl)) (halves t)
+          ⊎-elim (λ e. (at 0 (1 + i), left i (omega arith) (omega arith) refl)) (λ e. (at (nx - 1) (1 + i), right i (omega arith) (omega arith) refl))
+          (halves t)
 
   -- ---- every block has an index
   pub some-index : (bx by : ℕ) → bx < nx → by < ny → (p : ℕ) × Stands nx ny p (at bx by)
@@ -242,7 +247,11 @@ module _ (nx ny : ℕ) (W : 2 ≤ nx) (H : 2 ≤ ny) where
       (λ c. ⊎-elim (λ e. (_, right (by - 1) (omega arith) refl (alike e (omega arith))))
       (λ d. ⊎-elim
       (λ even. (_, forth (by - 1) (bx - 1) (omega arith) (omega arith) (ap (λ (z : ℕ). z % 2) (up a) ∙ even) refl (alike (omega arith) (omega arith))))
-      (λ odd. (_, back (by - 1) (nx - 2 - bx) (omega arith) (omega arith) (λ e. odd (ap (λ (z : ℕ). z % 2) (sym (up a)) ∙ e)) refl (alike (omega arith) (omega arith))))
+      (λ odd. (
+        _,
+        back (by - 1) (nx - 2 - bx) (omega arith) (omega arith) (λ e. odd (ap (λ (z : ℕ). z % 2) (sym (up a)) ∙ e)) refl
+            (alike (omega arith) (omega arith)),
+      ))
       (eq-or-ne (by % 2) 0))
       (eq-or-ne bx (nx - 1)))
       (eq-or-ne bx 0))
@@ -254,15 +263,34 @@ module _ (nx ny : ℕ) (W : 2 ≤ nx) (H : 2 ≤ ny) where
   unfolding rulePosition
   rule-position p b (forth i j I J even e f) =
       ap (rulePosition nx ny) f
-      ∙ simp (ne-eqb (1 + i) 0 (omega arith), ne-eqb (1 + i) (ny - 1) (omega arith), ne-eqb (1 + j) 0 (omega arith), ne-eqb (1 + j) (nx - 1) (omega arith), eq-eqb ((1 + i) % 2) 0 even) (omega (arith, ap (λ (z : ℕ). z * (nx - 2)) (down i)))
+      ∙ simp (
+        ne-eqb (1 + i) 0 (omega arith),
+        ne-eqb (1 + i) (ny - 1) (omega arith),
+        ne-eqb (1 + j) 0 (omega arith),
+        ne-eqb (1 + j) (nx - 1) (omega arith),
+        eq-eqb ((1 + i) % 2) 0 even,
+      ) (omega (arith, ap (λ (z : ℕ). z * (nx - 2)) (down i)))
   rule-position p b (back i j I J odd e f) =
       ap (rulePosition nx ny) f
-      ∙ simp (ne-eqb (1 + i) 0 (omega arith), ne-eqb (1 + i) (ny - 1) (omega arith), ne-eqb (nx - 2 - j) 0 (omega arith), ne-eqb (nx - 2 - j) (nx - 1) (omega arith), ne-eqb ((1 + i) % 2) 0 odd) (omega (arith, ap (λ (z : ℕ). z * (nx - 2)) (down i)))
+      ∙ simp (
+        ne-eqb (1 + i) 0 (omega arith),
+        ne-eqb (1 + i) (ny - 1) (omega arith),
+        ne-eqb (nx - 2 - j) 0 (omega arith),
+        ne-eqb (nx - 2 - j) (nx - 1)
+            (omega arith),
+        ne-eqb ((1 + i) % 2) 0 odd,
+      ) (omega (arith, ap (λ (z : ℕ). z * (nx - 2)) (down i)))
   rule-position p b (top x X e f) = ap (rulePosition nx ny) f ∙ sym e
   rule-position p b (bottom x X e f) = ap (rulePosition nx ny) f ∙ simp (ne-eqb (ny - 1) 0 (omega arith), eq-eqb (ny - 1) (ny - 1) refl) (sym e)
   rule-position p b (left i I e f) = ap (rulePosition nx ny) f ∙ simp (ne-eqb (1 + i) 0 (omega arith), ne-eqb (1 + i) (ny - 1) (omega arith)) (omega arith)
   rule-position p b (right i I e f) =
-      ap (rulePosition nx ny) f ∙ simp (ne-eqb (1 + i) 0 (omega arith), ne-eqb (1 + i) (ny - 1) (omega arith), ne-eqb (nx - 1) 0 (omega arith), eq-eqb (nx - 1) (nx - 1) refl) (omega arith)
+      ap (rulePosition nx ny) f ∙ simp (
+        ne-eqb (1 + i) 0 (omega arith),
+        ne-eqb (1 + i) (ny - 1) (omega arith),
+        ne-eqb (nx - 1) 0 (omega arith),
+        eq-eqb (nx - 1)
+            (nx - 1) refl,
+      ) (omega arith)
 
   pub rule-block : (p : ℕ) (b : Place) → Stands nx ny p b → ruleBlock nx ny p ≡ b
   unfolding ruleBlock

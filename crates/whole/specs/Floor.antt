@@ -1,4 +1,5 @@
--- The quotient rounded down (`shrZ`), the remainder that goes with it (`modZ`), and the quotient rounded toward zero (`quotZ`), over any divisor. Assumes nothing.
+-- The quotient rounded down (`shrZ`), the remainder that goes with it (`modZ`), and the quotient rounded toward zero (`quotZ`), over any divisor. Assumes
+-- nothing.
 use mathlib.Core.Path.{_≡_, refl, sym, ap, _∙_}
 use Prim.Native.Nat.{ℕ, zero, suc, _+_, _-_, _*_, _/_, _%_, _≤_, _<_}
 use native.Mathlib.Nat.{zero-div, mod-lt, div-add-mod'}
@@ -63,7 +64,15 @@ mod-times {m} some z k =
     let q = shrZ z m in
     let n = modZ z m * k in
     sym (mod-only (z *ℤ pos k) (q *ℤ pos k +ℤ pos (n / m)) (n % m) (mod-lt n some)
-    (omega (arith, ap (λ (j : ℕ). j * k) (floor-is some z), div-add-mod' n m, times-is z k, ap (λ (j : ℕ). j * m) (times-is q k), ap (λ (j : ℕ). j * m) (add-is (q *ℤ pos k) (pos (n / m))))))
+    (omega (
+      arith,
+      ap (λ (j : ℕ). j * k) (floor-is some z),
+      div-add-mod' n m,
+      times-is z k,
+      ap (λ (j : ℕ). j * m) (times-is q k),
+      ap (λ (j : ℕ). j * m)
+          (add-is (q *ℤ pos k) (pos (n / m))),
+    )))
 
 -- ---- the quotient toward zero: how far it lies above and below zero is how far z does, divided
 pub quot-P : (z : ℤ) (m : ℕ) → P (quotZ z (pos m)) ≡ P z / m

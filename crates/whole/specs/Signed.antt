@@ -208,4 +208,27 @@ abs-fits w z h = record { fits = omega (arith, abs-is z) }
 
 -- The rules. A goal of an order, an equation, a test's outcome, a range or a cast to unsigned is turned; a fact of these kinds is read.
 -- `omega` takes the first rule that fits a fact, so a range goes in by hand, as `range f`.
-pub ruleset signed = (arith, le-is, lt-is, le-of, lt-of, eq-is, eq-of, ltZ-true, ltZ-false, leZ-true, leZ-false, ltZ-yes!, ltZ-no!, leZ-yes!, leZ-no!, back-is, fit-sub, fit-add, fit-mul, fit-any, nonneg-of, abs-fits)
+pub ruleset signed = (
+  arith,
+  le-is,
+  lt-is,
+  le-of,
+  lt-of,
+  eq-is,
+  eq-of,
+  ltZ-true,
+  ltZ-false,
+  leZ-true,
+  leZ-false,
+  ltZ-yes!,
+  ltZ-no!,
+  leZ-yes!,
+  leZ-no!,
+  back-is,
+  fit-sub,
+  fit-add,
+  fit-mul,
+  fit-any,
+  nonneg-of,
+  abs-fits,
+)

@@ -4,7 +4,18 @@ use mathlib.Core.Path.{_≡_, refl, sym, ap, _∙_}
 use mathlib.Core.Bool.{Bool}
 use mathlib.Core.Logic.{_⊎_, inl, inr, ⊎-elim}
 use Prim.Native.Nat.{ℕ, zero, suc, _+_, _-_, _*_, _/_, _%_, _^_, _≤_, _<_}
-use native.Mathlib.Nat.{mod-lt, mul-assoc, add-mul, div-add-mod', mul-lt-mul-of-pos-right, lt-of-mul-lt-mul-right, mul-mod-left, mul-div-cancel, mul-le-mul-right, one-le-pow}
+use native.Mathlib.Nat.{
+  mod-lt,
+  mul-assoc,
+  add-mul,
+  div-add-mod',
+  mul-lt-mul-of-pos-right,
+  lt-of-mul-lt-mul-right,
+  mul-mod-left,
+  mul-div-cancel,
+  mul-le-mul-right,
+  one-le-pow,
+}
 use native.Mathlib.Omega.{arith}
 use lib.Bits.{bitAnd, and-mask}
 use lib.Arith.{digits-div, digits-mod, mod-mul}
@@ -31,7 +42,8 @@ module _ (w : Width) where
   pub wrapped-fits : (z : ℤ) → SFits w (wrapped w z)
   wrapped-fits z = sfits-toZ (record { fits = mod-below (power-positive w) z })
 
-  -- with q the quotient rounded down: a remainder below half the power is read as it is, and q turns are left; another is read one power lower, and one turn more is left
+  -- with q the quotient rounded down: a remainder below half the power is read as it is, and q turns are left; another is read one power lower, and one turn
+  -- more is left
   pub wrapped-is : (z : ℤ) → Wraps w z (wrapped w z)
   wrapped-is z =
       let m = 2 ^ bits w in
@@ -98,7 +110,8 @@ low-bits w {z = negsuc n} m c some e f =
     ap (λ (k : ℕ). k % m) digits ∙ digits-mod (c - suc q) {m = m} {r = m - suc (n % m)} (omega arith)
 
 -- a mask of k ones leaves the low k bits
-pub masked : (w : Width) {z : ℤ} (k c : ℕ) → 2 ^ bits w ≡ c * 2 ^ k → 2 ^ k ≤ 2 ^ hbits w → SFits w z → toZ w (bitAnd (ofZ w z) (2 ^ k - 1)) ≡ pos (modZ z (2 ^ k))
+pub masked : (w : Width) {z : ℤ} (k c : ℕ) → 2 ^ bits w ≡ c * 2 ^ k → 2 ^ k ≤ 2 ^ hbits w → SFits w z →
+    toZ w (bitAnd (ofZ w z) (2 ^ k - 1)) ≡ pos (modZ z (2 ^ k))
 masked w {z} k c e small f =
     let some : 0 < 2 ^ k = one-le-pow k 2 (omega arith) in
     ap (toZ w) (and-mask (ofZ w z) k ∙ low-bits w (2 ^ k) c some e f) ∙ toZ-pos w (omega (arith, mod-below some z))
@@ -126,7 +139,8 @@ module _ (w h : Width) (full : 2 ^ bits w ≡ 2 ^ bits h * 2 ^ bits h) (half : 2
       let digits : 2 ^ bits w - suc (r * m) ≡ (m - suc r) * m + (m - 1) = omega arith in
       ⊎-elim
       (λ s. ap (λ (z : ℤ). shrZ z m) (toZ-pos w (below s)) ∙ ap pos (mul-div-cancel r some) ∙ sym (toZ-pos h s))
-      (λ s. ap (λ (z : ℤ). shrZ z m) (toZ-high w (r * m) (above s)) ∙ ap negsuc (ap (λ (k : ℕ). k / m) digits ∙ digits-div (m - suc r) (omega arith)) ∙ sym (toZ-high h r s))
+      (λ s. ap (λ (z : ℤ). shrZ z m) (toZ-high w (r * m) (above s)) ∙ ap negsuc (ap (λ (k : ℕ). k / m) digits ∙ digits-div (m - suc r) (omega arith))
+      ∙ sym (toZ-high h r s))
       (lt-or-ge r (2 ^ hbits h))
 
   pub shifted : {z : ℤ} → SFits w z → shrZ (toZ w ((ofZ w z * 2 ^ bits h) % 2 ^ bits w)) (2 ^ bits h) ≡ wrapped h z

@@ -35,7 +35,8 @@ pub record Referred (s : Settings) (reference : Planes) (luma u v : ℕ) : Type 
   pub alike : evaluation.referencesHold (s .level .pel) (s .planes) reference ≡ true
   pub long : holds3 reference luma u v ≡ true
 
-module _ (s : Settings) (measure : Bool) (pnew : ℤ) (reference : Planes) (order vectors : List ℤ) (luma u v referenceLuma referenceU referenceV : List ℕ) (words indices : ℕ)
+module _ (s : Settings) (measure : Bool) (pnew : ℤ) (reference : Planes) (order vectors : List ℤ) (luma u v referenceLuma referenceU referenceV : List ℕ)
+    (words indices : ℕ)
     (planned : refusalOf s order vectors (length luma) (length u) (length v) words indices ≡ 0)
     (referred : Referred s reference (length referenceLuma) (length referenceU) (length referenceV))
     (room : ℕ) (enough : 4 * blockCount (s .grid) ≤ room) where

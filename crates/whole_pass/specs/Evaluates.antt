@@ -21,7 +21,8 @@ use Rattle.evaluation.specs.Evaluated.{evaluateAnswer}
 use Rattle.evaluation.specs.Table.{given-exactly}
 use Rattle.plan_laws.specs.NeverWide.{never-wide}
 
-module _ (s : Settings) (q : Request) (order vectors : List ℤ) (n : ℕ) (same : q .«search_param» ≡ s .search .«search_param») (fit : allFit s order vectors n ≡ true) where
+module _ (s : Settings) (q : Request) (order vectors : List ℤ) (n : ℕ) (same : q .«search_param» ≡ s .search .«search_param»)
+    (fit : allFit s order vectors n ≡ true) where
   abbrev records : List ℤ
   records = wordsUpto s order vectors n
 
@@ -48,7 +49,8 @@ module _ (s : Settings) (q : Request) (order vectors : List ℤ) (n : ℕ) (same
     never-7 e =
         let number = refusalOf q records (length luma) (length u) (length v) (length referenceLuma) (length referenceU) (length referenceV) room in
         let seven = given-exactly q records (length luma) (length u) (length v) (length referenceLuma) (length referenceU) (length referenceV) room .is-7 in
-        let planes = holds3 (q .source) (length luma) (length u) (length v) && holds3 (q .reference) (length referenceLuma) (length referenceU) (length referenceV) in
+        let planes = holds3 (q .source) (length luma) (length u) (length v) && holds3 (q .reference) (length referenceLuma) (length referenceU)
+        (length referenceV) in
         let before = not (not (holds1 q)) && not (not (holds2 q)) && not (not planes) && not (not (hasRoom (length records) room)) in
         let no : eqb number 7 ≡ false = seven ∙ never before none-wide in
         let yes : eqb number 7 ≡ true = ap (λ (k : ℕ). eqb k 7) e in

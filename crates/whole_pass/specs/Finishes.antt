@@ -42,7 +42,20 @@ use Rattle.evaluation.specs.declared.Request.{Request}
 use Rattle.evaluation.specs.Evaluated.{taskOf, bestAt, bestsUpto}
 use Rattle.evaluation.specs.BestsLaws.{bests-long}
 use Rattle.evaluation.specs.Accepted.{ranged}
-use Rattle.finishing.specs.Finish.{refused1, sidesOver, refused2, isStray, refused4, refused5, isWild, refused7, finishAnswer, finishVectors, finishOutput, writtenUpto}
+use Rattle.finishing.specs.Finish.{
+  refused1,
+  sidesOver,
+  refused2,
+  isStray,
+  refused4,
+  refused5,
+  isWild,
+  refused7,
+  finishAnswer,
+  finishVectors,
+  finishOutput,
+  writtenUpto,
+}
 use Rattle.finishing.specs.Finish as finish
 use Rattle.plan_laws.specs.ReadBack.{planned, record-read}
 use Rattle.whole_pass.specs.Pass.{passBest, storing, putting, passVectors, passOutput}
@@ -50,7 +63,8 @@ use Rattle.whole_pass.specs.Lists.{index-reads, written-alike}
 
 -- ---- a best's vector fits i16
 best-tame : (task : Task) (r : Record) (luma u v referenceLuma referenceU referenceV : List ℕ) → pairsFit r ≡ true →
-    (fitsI16 (bestOf task r luma u v referenceLuma referenceU referenceV .x) ≡ true) × (fitsI16 (bestOf task r luma u v referenceLuma referenceU referenceV .y) ≡ true)
+    (fitsI16 (bestOf task r luma u v referenceLuma referenceU referenceV .x) ≡ true) ×
+    (fitsI16 (bestOf task r luma u v referenceLuma referenceU referenceV .y) ≡ true)
 unfolding bestOf
 best-tame task r luma u v referenceLuma referenceU referenceV pairs =
     let vector = selected-ranged (choiceOf task r) (isBad r) (isNegative r) (r .sad) _ _ (ranged task r pairs) in
@@ -76,7 +90,8 @@ diagonal-some s k =
     let sq = squares (k .across .frame-least) (k .across .frame-most) (k .down .frame-least) (k .down .frame-most) in
     times-some (s .level .pel) (rootOf (squared (s .planes .luma .width) + squared (s .planes .luma .height))) (k .pel) (root-some _ (sq .0) (sq .1))
 
-module _ (s : Settings) (q : Request) (order vectors : List ℤ) (luma u v referenceLuma referenceU referenceV : List ℕ) {words marks : ℕ} (k : Accepted s order vectors words marks) where
+module _ (s : Settings) (q : Request) (order vectors : List ℤ) (luma u v referenceLuma referenceU referenceV : List ℕ) {words marks : ℕ}
+    (k : Accepted s order vectors words marks) where
   -- what the plan wrote, and what evaluating made of it
   abbrev pub n : ℕ
   n = blockCount (s .grid)
@@ -97,7 +112,8 @@ module _ (s : Settings) (q : Request) (order vectors : List ℤ) (luma u v refer
   fit-each (suc m) i l e =
       ⊎-elim
       (λ h. fit-each m i h (left-of (allFit s order vectors m) (turnOf s order vectors m .fits) e))
-      (λ h. let same : m ≡ i = omega arith in subst (λ (j : ℕ). recordFits (planned s order vectors j) ≡ true) same (right-of (allFit s order vectors m) (turnOf s order vectors m .fits) e))
+      (λ h. let same : m ≡ i = omega arith in subst (λ (j : ℕ). recordFits (planned s order vectors j) ≡ true) same
+      (right-of (allFit s order vectors m) (turnOf s order vectors m .fits) e))
       (lt-or-ge i m)
 
   pairs-each : (i : ℕ) → i < n → pairsFit (planned s order vectors i) ≡ true
@@ -109,13 +125,15 @@ module _ (s : Settings) (q : Request) (order vectors : List ℤ) (luma u v refer
   record-is : (i : ℕ) → i < n → recordAt records i ≡ planned s order vectors i
   record-is i l = subst (λ (x : List ℤ). recordAt x i ≡ planned s order vectors i) (append-nil records) (record-read s order vectors n i [] l (k .fit))
 
-  best-is : (i : ℕ) → i < n → bestAt (taskOf q) records luma u v referenceLuma referenceU referenceV i ≡ passBest s q order vectors luma u v referenceLuma referenceU referenceV i
+  best-is : (i : ℕ) → i < n → bestAt (taskOf q) records luma u v referenceLuma referenceU referenceV i
+      ≡ passBest s q order vectors luma u v referenceLuma referenceU referenceV i
   best-is i l = ap (λ (r : Record). bestOf (taskOf q) r luma u v referenceLuma referenceU referenceV) (record-is i l)
 
   reads : (i : ℕ) → i < n → Reads bests i (passBest s q order vectors luma u v referenceLuma referenceU referenceV i)
   reads i l =
       subst (Reads bests i) (best-is i l)
-      (subst (λ (x : List ℤ). Reads x i (bestAt (taskOf q) records luma u v referenceLuma referenceU referenceV i)) (append-nil bests) (best-reads (taskOf q) records luma u v referenceLuma referenceU referenceV n i [] l))
+      (subst (λ (x : List ℤ). Reads x i (bestAt (taskOf q) records luma u v referenceLuma referenceU referenceV i)) (append-nil bests)
+      (best-reads (taskOf q) records luma u v referenceLuma referenceU referenceV n i [] l))
 
   index-is : (i : ℕ) → i < n → getD indices i (pos 0) ≡ pos (indexAt (s .grid) order i)
   index-is i l = subst (λ (x : List ℤ). getD x i (pos 0) ≡ pos (indexAt (s .grid) order i)) (append-nil indices) (index-reads s order vectors n i [] l)
@@ -135,7 +153,8 @@ module _ (s : Settings) (q : Request) (order vectors : List ℤ) (luma u v refer
       let b = k .set .down .count-most in
       let p : ltZ (pos 2048) (s .grid .x) ≡ false = omega signed in
       let r : ltZ (pos 2048) (s .grid .y) ≡ false = omega signed in
-      let held : eqb (length vectors) (3 * blocksOf (s .grid .x) (s .grid .y)) ≡ true = eq-eqb (length vectors) (3 * blocksOf (s .grid .x) (s .grid .y)) (k .held) in
+      let held : eqb (length vectors) (3 * blocksOf (s .grid .x) (s .grid .y)) ≡ true =
+      eq-eqb (length vectors) (3 * blocksOf (s .grid .x) (s .grid .y)) (k .held) in
       rw (p, r, held, diagonal-some s (k .set))
 
   stray-none : (blocks index : ℕ) → index < blocks → isStray (pos blocks) (pos index) ≡ false
@@ -171,19 +190,23 @@ module _ (s : Settings) (q : Request) (order vectors : List ℤ) (luma u v refer
       let r = reads i l in
       rw (r .x, r .y, tame .0, tame .1))
 
-  pub finishing-done : (asked : Bool) (room : ℕ) → (asked ≡ true → 2 * n ≤ room) → finishAnswer (s .grid .x) (s .grid .y) indices bests (madeOf s .diagonal) asked (length vectors) room ≡ 0
+  pub finishing-done : (asked : Bool) (room : ℕ) → (asked ≡ true → 2 * n ≤ room) →
+      finishAnswer (s .grid .x) (s .grid .y) indices bests (madeOf s .diagonal) asked (length vectors) room ≡ 0
   unfolding finishAnswer
   finishing-done asked room h = rw (not-1, not-2, not-4, not-5 asked room h, not-7)
 
   -- ---- and what it writes is the pass
-  stored-alike : (i : ℕ) (held : List ℤ) → i < n → finish.storing indices bests i held ≡ storing s q order vectors luma u v referenceLuma referenceU referenceV i held
+  stored-alike : (i : ℕ) (held : List ℤ) → i < n → finish.storing indices bests i held
+      ≡ storing s q order vectors luma u v referenceLuma referenceU referenceV i held
   stored-alike i held l = let r = reads i l in rw (index-is i l, r .x, r .y, r .sad)
 
-  put-alike : (i : ℕ) (held : List ℤ) → i < n → finish.putting indices bests (madeOf s .diagonal) i held ≡ putting s q order vectors luma u v referenceLuma referenceU referenceV i held
+  put-alike : (i : ℕ) (held : List ℤ) → i < n → finish.putting indices bests (madeOf s .diagonal) i held
+      ≡ putting s q order vectors luma u v referenceLuma referenceU referenceV i held
   put-alike i held l = let r = reads i l in rw (index-is i l, r .x, r .y, r .sad, r .average)
 
   module _ (asked : Bool) (output : List ℤ) (room : asked ≡ true → 2 * n ≤ length output) where
-    pub pass-vectors : finishVectors (s .grid .x) (s .grid .y) indices bests (madeOf s .diagonal) asked vectors (length output) ≡ passVectors s q order vectors luma u v referenceLuma referenceU referenceV
+    pub pass-vectors : finishVectors (s .grid .x) (s .grid .y) indices bests (madeOf s .diagonal) asked vectors (length output)
+        ≡ passVectors s q order vectors luma u v referenceLuma referenceU referenceV
     unfolding finishVectors passVectors
     pass-vectors =
         kept-done _ _ vectors (finishing-done asked (length output) room)
@@ -195,4 +218,5 @@ module _ (s : Settings) (q : Request) (order vectors : List ℤ) (luma u v refer
     unfolding finishOutput passOutput
     pass-output =
         kept-done _ _ output (finishing-done asked (length output) room)
-        ∙ ap (λ (x : List ℤ). cond asked x output) (ap (writtenUpto (finish.putting indices bests (madeOf s .diagonal)) output) (indices-long s order vectors n) ∙ written-alike _ _ output n put-alike)
+        ∙ ap (λ (x : List ℤ). cond asked x output) (ap (writtenUpto (finish.putting indices bests (madeOf s .diagonal)) output)
+        (indices-long s order vectors n) ∙ written-alike _ _ output n put-alike)

@@ -23,7 +23,8 @@ module _ (s : Settings) (order vectors : List ℤ) where
   unfolding turnAt
   last-index n tail =
       let first : n ≡ n + 0 = omega arith in
-      ap (λ (m : ℕ). getD (listed n ++ (pos (turnOf s order vectors n .index) ∷ tail)) m (pos 0)) first ∙ behind (listed n) (pos (turnOf s order vectors n .index) ∷ tail) n 0 (indices-long s order vectors n)
+      ap (λ (m : ℕ). getD (listed n ++ (pos (turnOf s order vectors n .index) ∷ tail)) m (pos 0)) first
+      ∙ behind (listed n) (pos (turnOf s order vectors n .index) ∷ tail) n 0 (indices-long s order vectors n)
 
   pub index-reads : (n i : ℕ) (tail : List ℤ) → i < n → getD (listed n ++ tail) i (pos 0) ≡ pos (indexAt (s .grid) order i)
   unfolding indicesUpto
@@ -40,7 +41,8 @@ module _ (s : Settings) (order vectors : List ℤ) where
       (lt-or-ge i n)
 
 -- ---- two ways of writing that do the same at each entry
-pub written-alike : (f g : ℕ → List ℤ → List ℤ) (buffer : List ℤ) (n : ℕ) → ((i : ℕ) (held : List ℤ) → i < n → f i held ≡ g i held) → writtenUpto f buffer n ≡ writtenUpto g buffer n
+pub written-alike : (f g : ℕ → List ℤ → List ℤ) (buffer : List ℤ) (n : ℕ) → ((i : ℕ) (held : List ℤ) → i < n → f i held ≡ g i held) →
+    writtenUpto f buffer n ≡ writtenUpto g buffer n
 unfolding writtenUpto
 written-alike f g buffer zero h = refl
 written-alike f g buffer (suc n) h =

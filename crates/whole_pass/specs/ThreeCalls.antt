@@ -1,7 +1,7 @@
--- The three calls as a host makes them, in buffers that are long enough or longer. Planning is done; the request is made of the plan's settings, and the reference
--- planes pass 2's and 3's tests. Then evaluating is done and finishing is done, what finishing leaves is the pass, and behind what each call writes its buffer
--- holds what it held. Evaluating is handed the words that planning wrote, finishing the indices and the bests: the fronts of the buffers.
--- Assumes nothing.
+-- The three calls as a host makes them, in buffers that are long enough or longer. Planning is done; the request is made of the plan's settings, and the
+-- reference planes pass 2's and 3's tests. Then evaluating is done and finishing is done, what finishing leaves is the pass, and behind what each call writes
+-- its buffer holds what it held. Evaluating is handed the words that planning wrote, finishing the indices and the bests: the fronts of the buffers. Assumes
+-- nothing.
 use mathlib.Core.Path.{_≡_, refl, sym, ap, _∙_}
 use mathlib.Core.Bool.{Bool, true, cond}
 use mathlib.Core.List.{List, _++_}
@@ -72,7 +72,8 @@ module _ (s : Settings) (measure : Bool) (pnew : ℤ) (reference : Planes) (orde
   pub evaluated : evaluateAnswer q (take (12 * n) written) luma u v referenceLuma referenceU referenceV (length bests) ≡ 0
   evaluated =
       rw records-are
-      (evaluation-done s measure pnew reference order vectors luma u v referenceLuma referenceU referenceV (length records) (length indices) planned referred (length bests) enough)
+      (evaluation-done s measure pnew reference order vectors luma u v referenceLuma referenceU referenceV (length records) (length indices) planned referred
+      (length bests) enough)
 
   abbrev pub found : List ℤ
   found = evaluateBests q (take (12 * n) written) luma u v referenceLuma referenceU referenceV bests

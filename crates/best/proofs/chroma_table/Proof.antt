@@ -1,4 +1,5 @@
 -- Both planes are one function's tables, read at the same offsets; their costs are small, so that the sums fit. Assumes nothing.
+use borrow.Author.Needs.{needs}
 use mathlib.Core.Path.{_≡_}
 use native.Mathlib.Omega.{arith}
 use mir.Syntax.{w32}
@@ -16,7 +17,12 @@ plane-table-requires : tie.Need-plane-table-requires
 plane-table-requires c κs = let fair = c .before .before .before .before .before .before .before .before .before .before .before .before .before .pre .0 in (c .before .before .before .before .before .before .before .before .before .before .before .before .before .pre, ((fair .source-u, fair .reference-u), c .before .chroma-offsets .ensures))
 
 plane-table-requires-2 : tie.Need-plane-table-requires-2
-plane-table-requires-2 c κs = let fair = c .before .before .before .before .before .before .before .before .before .before .before .before .before .before .before .pre .0 in (c .before .before .before .before .before .before .before .before .before .before .before .before .before .before .before .pre, ((fair .source-v, fair .reference-v), c .before .before .before .chroma-offsets .ensures))
+plane-table-requires-2 c κs =
+    let fair = c .before .before .before .before .before .before .before .before .before .before .before .before .before .before .before .pre .0 in
+    -- both reference places can be read, and which of them is passed is told in `vs-is`
+    let own = fair .reference-v in
+    let other = fair .reference-u in
+    (c .before .before .before .before .before .before .before .before .before .before .before .before .before .before .before .pre, ((fair .source-v, search needs), c .before .before .before .chroma-offsets .ensures))
 
 us-is : (c : tie.After-plane-table) → let s = c .before .before .before .before .before .before .before .before .before .before .before .before .before .before .args in c .plane-table .result ≡ planeTable (s .task) (s .given) (s .given .u) (s .task .source .u) (s .task .reference .u) (s .u .now) (s .reference-u .now)
 us-is c = c .plane-table .ensures
