@@ -18,8 +18,8 @@ use Rattle.whole.specs.Wrapping.{masked}
 use Rattle.limits.specs.Limits.{isPel}
 
 -- a number kept in 64 bits, and read back
-abbrev pub kept : ℤ → ℤ
-kept z = toZ w64 (ofZ w64 z)
+abbrev pub as-64 : ℤ → ℤ
+as-64 z = toZ w64 (ofZ w64 z)
 
 -- the same number, in a wider interval
 pub is-more : {w : Width} {l h l′ h′ : ℕ} {X x : ℤ} → Is w l h X x → T (leb l l′) → T (leb h h′) → Is w l′ h′ X x

@@ -20,7 +20,7 @@ use Rattle.records.specs.declared.Offset.{Offset}
 use Rattle.records.specs.declared.Offset.the-variants.{At, Absent}
 use Rattle.distance.specs.Laws.{Agree, Bytes}
 use Rattle.distance.specs.Views.{tail-block, cost-same}
-use Rattle.plane.specs.Samples.{readAt, weight, sampleAt, placedAt, placedFrom, nth, quarter, sourceAt, gathered}
+use Rattle.plane.specs.Samples.{readAt, weight, sampleAt, placedAt, placedFrom, nth, overlaid, sourceAt, gathered}
 
 -- ---- reads. From the front on a sample is the list's own, which counts 0 past its end
 pub sample-from-front : (s : List ℕ) (n : ℕ) → sampleAt s (pos n) ≡ getD s n 0
@@ -49,7 +49,7 @@ module _ (s : List ℕ) (bytes : (n : ℕ) → getD s n 0 < 256) where
   pub source-byte : (pitch : ℕ) (full overlay : Offset) (w h b : ℕ) → sourceAt s pitch full overlay w h b < 256
   unfolding sourceAt
   source-byte pitch full (At at) w h b =
-      either (ltb b (quarter w h)) (sample-byte (at +ℤ pos ((b / (w / 2)) * pitch + b % (w / 2)))) (placed-byte full pitch (b / w) (b % w))
+      either (ltb b (overlaid w h)) (sample-byte (at +ℤ pos ((b / (w / 2)) * pitch + b % (w / 2)))) (placed-byte full pitch (b / w) (b % w))
     where
       either : {m n : ℕ} (t : Bool) → m < 256 → n < 256 → cond t m n < 256
       either true k l = k

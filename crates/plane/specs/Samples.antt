@@ -46,12 +46,12 @@ nth w block b = block (b / w) (b % w)
 
 -- ---- "Source sample b comes from overlay while overlay is present and b is under a quarter of the full block, with half the row length;
 -- else from full; else 0." w and h are the full block's sides.
-abbrev pub quarter : ℕ → ℕ → ℕ
-quarter w h = (w / 2) * (h / 2)
+abbrev pub overlaid : ℕ → ℕ → ℕ
+overlaid w h = (w / 2) * (h / 2)
 
 unfoldable pub sourceAt : List ℕ → ℕ → Offset → Offset → ℕ → ℕ → ℕ → ℕ
 sourceAt s pitch full (At overlay) w h b =
-    cond (ltb b (quarter w h)) (nth (w / 2) (placedAt s overlay pitch) b) (nth w (placedFrom s full pitch) b)
+    cond (ltb b (overlaid w h)) (nth (w / 2) (placedAt s overlay pitch) b) (nth w (placedFrom s full pitch) b)
 sourceAt s pitch full Absent w h b = nth w (placedFrom s full pitch) b
 
 -- ---- an array of 256 bytes that holds f 0, f 1 .. f (n - 1), and then zeros

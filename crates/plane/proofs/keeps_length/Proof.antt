@@ -14,7 +14,7 @@ use Rattle.whole.specs.Interval.{Is, word, widened, is-literal, ask-cast, ask-a
 use Rattle.limits.specs.Limits.{isLength}
 use Rattle.plane.specs.Places.{lastEnd}
 use Rattle.plane.specs.Offsets.{no-room, some-room}
-use Rattle.plane.proofs.Machine.{kept, is-more, is-natural}
+use Rattle.plane.proofs.Machine.{as-64, is-more, is-natural}
 use Rattle.plane.proofs.keeps_length.Statement.{statement}
 use Rattle.plane.proofs.keeps_length.Tie as tie
 
@@ -25,16 +25,16 @@ returns c =
 
 -- ---- the sums, over what the machine reads of each number
 module _ {L H Q W l h q w : ℤ} (length-is : Is w64 1073741823 1073741823 L l) (height-is : Is w64 2147483648 2147483648 H h) (pitch-is : Is w64 2147483648 2147483648 Q q) (width-is : Is w64 2147483648 2147483648 W w) where
-  steps : Is w64 2147483649 2147483649 (kept (H -ℤ pos 1)) (h -ℤ pos 1)
+  steps : Is w64 2147483649 2147483649 (as-64 (H -ℤ pos 1)) (h -ℤ pos 1)
   steps = is-more (is-sub height-is (is-literal w64 (pos 1)) tt tt) tt tt
 
-  rows : Is w64 4611686020574871552 4611686020574871552 (kept (kept (H -ℤ pos 1) *ℤ Q)) ((h -ℤ pos 1) *ℤ q)
+  rows : Is w64 4611686020574871552 4611686020574871552 (as-64 (as-64 (H -ℤ pos 1) *ℤ Q)) ((h -ℤ pos 1) *ℤ q)
   rows = is-times steps pitch-is tt tt
 
-  reach : Is w64 4611686022722355200 4611686022722355200 (kept (kept (kept (H -ℤ pos 1) *ℤ Q) +ℤ W)) ((h -ℤ pos 1) *ℤ q +ℤ w)
+  reach : Is w64 4611686022722355200 4611686022722355200 (as-64 (as-64 (as-64 (H -ℤ pos 1) *ℤ Q) +ℤ W)) ((h -ℤ pos 1) *ℤ q +ℤ w)
   reach = is-add rows width-is tt tt
 
-  room : Is w64 4611686023796097023 4611686023796097023 (kept (L -ℤ kept (kept (kept (H -ℤ pos 1) *ℤ Q) +ℤ W))) (l -ℤ ((h -ℤ pos 1) *ℤ q +ℤ w))
+  room : Is w64 4611686023796097023 4611686023796097023 (as-64 (L -ℤ as-64 (as-64 (as-64 (H -ℤ pos 1) *ℤ Q) +ℤ W))) (l -ℤ ((h -ℤ pos 1) *ℤ q +ℤ w))
   room = is-sub length-is reach tt tt
 
 -- ---- what is known of each

@@ -13,7 +13,7 @@ use Rattle.whole.specs.Interval.{Is, word, within-more, is-arg, is-cast, ask-ca
 use Rattle.plane.specs.declared.Place.{Place}
 use Rattle.plane.specs.Places.{pel1Of, subpelOf}
 use Rattle.plane.specs.Offsets.{mod-within, pel1-within}
-use Rattle.plane.proofs.Machine.{kept, is-answer}
+use Rattle.plane.proofs.Machine.{as-64, is-answer}
 use Rattle.plane.proofs.subpel.Statement.{statement}
 use Rattle.plane.proofs.subpel.Tie as tie
 
@@ -29,10 +29,10 @@ module _ {A E B a e b : ℤ} (x-left : Is w32 3 3 A a) (pel-is : Is w32 4 4 E e)
   subplane = is-add x-left row tt tt
 
   module _ {Q H q h : ℤ} (pitch-is : Is w64 65536 65536 Q q) (height-is : Is w64 16384 16384 H h) where
-    step : Is w64 983040 983040 (kept (kept (short (A +ℤ short (E *ℤ B))) *ℤ Q)) ((a +ℤ e *ℤ b) *ℤ q)
+    step : Is w64 983040 983040 (as-64 (as-64 (short (A +ℤ short (E *ℤ B))) *ℤ Q)) ((a +ℤ e *ℤ b) *ℤ q)
     step = is-times (is-cast w64 subplane tt tt) pitch-is tt tt
 
-    far : Is w64 16106127360 16106127360 (kept (kept (kept (short (A +ℤ short (E *ℤ B))) *ℤ Q) *ℤ H)) ((a +ℤ e *ℤ b) *ℤ q *ℤ h)
+    far : Is w64 16106127360 16106127360 (as-64 (as-64 (as-64 (short (A +ℤ short (E *ℤ B))) *ℤ Q) *ℤ H)) ((a +ℤ e *ℤ b) *ℤ q *ℤ h)
     far = is-times step height-is tt tt
 
 -- ---- what is known of each
@@ -60,19 +60,19 @@ module _ (c : tie.After-remainder2) where
   pitch-fits : SFits w32 (c .before .before .before .before .before .args .place .pitch)
   pitch-fits = record { sfits = c .before .before .struct-told3 .given .1 .0 .1 }
 
-  pitch-at : Is w64 65536 65536 (kept (short (c .before .before .before .before .before .args .place .pitch))) (c .before .before .before .before .before .args .place .pitch)
+  pitch-at : Is w64 65536 65536 (as-64 (short (c .before .before .before .before .before .args .place .pitch))) (c .before .before .before .before .before .args .place .pitch)
   pitch-at = is-cast w64 (is-arg pitch-fits (within-more (c .before .before .before .before .before .pre .pitch-in) tt tt)) tt tt
 
   height-fits : SFits w32 (c .before .before .before .before .before .args .place .height)
   height-fits = record { sfits = c .before .before .struct-told3 .given .1 .1 .1 .0 .1 }
 
-  height-at : Is w64 16384 16384 (kept (short (c .before .before .before .before .before .args .place .height))) (c .before .before .before .before .before .args .place .height)
+  height-at : Is w64 16384 16384 (as-64 (short (c .before .before .before .before .before .args .place .height))) (c .before .before .before .before .before .args .place .height)
   height-at = is-cast w64 (is-arg height-fits (within-more (c .before .before .before .before .before .pre .height-in) tt tt)) tt tt
 
 alike : (p : Place) {X Y x y : ℤ} → X ≡ x → Y ≡ y → pel1Of p X Y ≡ pel1Of p x y
 alike p e f = cc
 
-start-at : (c : tie.After-pel1) → let s = c .before .before .before .before .before .before .before .before in let pel = natAbs (s .args .place .pel) in Is w64 140741783322623 140741783322623 (kept (c .pel1 .result)) (pel1Of (s .args .place) (shrZ (s .args .x) pel) (shrZ (s .args .y) pel))
+start-at : (c : tie.After-pel1) → let s = c .before .before .before .before .before .before .before .before in let pel = natAbs (s .args .place .pel) in Is w64 140741783322623 140741783322623 (as-64 (c .pel1 .result)) (pel1Of (s .args .place) (shrZ (s .args .x) pel) (shrZ (s .args .y) pel))
 start-at c =
     let s = c .before .before .before .before .before .before .before .before in
     let f = s .fits .x in
