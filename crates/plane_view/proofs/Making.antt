@@ -1,4 +1,4 @@
--- How a walk has a view made: the call of `view_of`, with what it is passed, what it asks, and what is known of its answer. Both walks that make one lean on it. Assumes nothing.
+-- How a walk has a view made: the call of `view_of`, with what it is passed, what it asks, and what is known of its answer. Each walk that makes one leans on it. Assumes nothing.
 use mathlib.Core.Path.{_≡_}
 use Prim.Native.Nat.{ℕ}
 use mathlib.Core.List.{List, [], _∷_}

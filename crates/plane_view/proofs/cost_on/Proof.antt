@@ -3,7 +3,7 @@ use lib.IntN.{natAbs}
 use Prim.Native.Nat.{_≤_}
 use mir.Facts.{toZ-ofZ}
 use mir.Syntax.{w32, w64}
-use mir.Val.{SFits, toZ, ofZ}
+use mir.Val.{toZ, ofZ}
 use Rattle.whole.specs.Signed.{signed, abs-is}
 use Rattle.whole.specs.Interval.{Is, is-within, ask-unsigned}
 use Rattle.plane_view.proofs.cost_on.Statement.{statement}
