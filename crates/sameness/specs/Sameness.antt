@@ -108,7 +108,8 @@ module _ {M : Type 1} (𝓤 : URA M) where
   fronts : {before text a b : List ℕ} {at n m : ℕ} → Puts before at text a n → Puts before at text b m → (n & take n a) ≡ (m & take m b)
   fronts p q = pair (p .next-is) (p .stands) (q .next-is) (q .stands)
 
-  puts : {before text a b : List ℕ} {at n m : ℕ} → Says (sep 𝓤 (fact 𝓤 (Puts before at text a n)) (fact 𝓤 (Puts before at text b m))) ((n & take n a) ≡ (m & take m b))
+  puts : {before text a b : List ℕ} {at n m : ℕ} → Says (sep 𝓤 (fact 𝓤 (Puts before at text a n)) (fact 𝓤 (Puts before at text b m)))
+      ((n & take n a) ≡ (m & take m b))
   puts {before} {text} {a} {b} {at} {n} {m} =
       thus (λ t. fronts (t .0) (t .1)) (both-say (id⊢ 𝓤 (fact 𝓤 (Puts before at text a n))) (id⊢ 𝓤 (fact 𝓤 (Puts before at text b m))))
 
@@ -116,7 +117,8 @@ module _ {M : Type 1} (𝓤 : URA M) where
       Says (sep 𝓤 (sep 𝓤 (fact 𝓤 (Puts before at text a n)) (fact 𝓤 φ)) (sep 𝓤 (fact 𝓤 (Puts before at text b m)) (fact 𝓤 ψ))) ((n & take n a) ≡ (m & take m b))
   puts-beside {before} {text} {a} {b} {at} {n} {m} {φ} {ψ} =
       thus (λ t. fronts (t .0 .0) (t .1 .0))
-      (both-say (both-say (id⊢ 𝓤 (fact 𝓤 (Puts before at text a n))) (id⊢ 𝓤 (fact 𝓤 φ))) (both-say (id⊢ 𝓤 (fact 𝓤 (Puts before at text b m))) (id⊢ 𝓤 (fact 𝓤 ψ))))
+      (both-say (both-say (id⊢ 𝓤 (fact 𝓤 (Puts before at text a n))) (id⊢ 𝓤 (fact 𝓤 φ)))
+      (both-say (id⊢ 𝓤 (fact 𝓤 (Puts before at text b m))) (id⊢ 𝓤 (fact 𝓤 ψ))))
 
   module _ (H : Heap 𝓤) (A : Atoms 𝓤) (mem : Memory → SProp 𝓤) (run : Routine → Fun 𝓤) where
     -- of every input and every two outcomes of it, r with e and s with f, the contract c gives that the same is shown
