@@ -15,7 +15,7 @@ use Rattle.whole.specs.Numbers.{fitsI16}
 use Rattle.whole.specs.Signed.{signed, holds}
 use Rattle.whole.specs.Truth.{left-of, right-of, either-of, lies-low, lies-high, five-of}
 use Rattle.whole.specs.Interval.{Within, within-more, is-within, read-within, i16-within}
-use Rattle.limits.specs.Limits.{same, isBlock, shiftedBy}
+use Rattle.limits.specs.Limits.{same, isBlock}
 use Rattle.records.specs.declared.Offset.{Offset}
 use Rattle.records.specs.declared.Pair.{Pair}
 use Rattle.records.specs.declared.Record.{Record}

@@ -3,12 +3,12 @@ use mathlib.Core.Path.{_≡_, refl}
 use mathlib.Core.Bool.{Bool, true, false, cond}
 use Prim.Native.Nat.{ℕ, _≤_}
 use native.Mathlib.Omega.{arith}
-use lib.IntN.{ℤ, pos, _+ℤ_, _-ℤ_, _*ℤ_}
-use lib.Signed.{ltZ, shrZ}
+use lib.IntN.{ℤ, pos, _-ℤ_}
+use lib.Signed.{ltZ}
 use Rattle.whole.specs.Numbers.{lesserOf, greaterOf}
-use Rattle.whole.specs.Signed.{P, N, signed, diff-is}
-use Rattle.whole.specs.Interval.{Within, within-literal, within-more, within-either, within-shr, within-sub}
-use Rattle.limits.specs.Limits.{shiftedBy, radiusOf}
+use Rattle.whole.specs.Signed.{P, N, signed}
+use Rattle.whole.specs.Interval.{Within, within-more, within-either, within-shr, within-sub}
+use Rattle.limits.specs.Limits.{shiftedBy}
 use Rattle.axis.specs.declared.Axis.{Axis}
 use Rattle.axis.specs.Axis.{excessOf, placeOf}
 use Rattle.axis.specs.Bounds.{Bounded}

@@ -2,9 +2,8 @@
 -- Assumes nothing.
 use mathlib.Core.Path.{_≡_, refl, sym, subst}
 use mathlib.Core.Bool.{Bool, true, false, cond}
-use Prim.Native.Nat.{ℕ, _+_, _*_, _≤_, _<_}
+use Prim.Native.Nat.{_+_, _*_, _≤_, _<_}
 use native.Mathlib.Nat.{mul-le-mul-right, add-mul}
-use native.Mathlib.Omega.{arith}
 use lib.IntN.{ℤ, pos, negsuc, _+ℤ_, _-ℤ_, _*ℤ_}
 use lib.Dec.{lit<}
 use lib.Signed.{ltZ, shrZ, _≤ℤ_, _<ℤ_}
@@ -12,20 +11,15 @@ use Rattle.limits.specs.Ranges.{radius-within}
 use Rattle.whole.specs.Numbers.{lesserOf, greaterOf}
 use Rattle.whole.specs.Signed.{P, N, signed, add-is, diff-is, times-is}
 use Rattle.whole.specs.Floor.{floor-low, floor-high}
-use Rattle.whole.specs.Interval.{Within, within-more}
+use Rattle.whole.specs.Interval.{Within}
 use Rattle.limits.specs.Limits.{shiftedBy, radiusOf}
 use Rattle.plane.specs.declared.Place.{Place}
-use Rattle.plane.specs.Places.{lastEnd, pel1Of, Placed}
 use Rattle.axis.specs.declared.Axis.{Axis}
 use Rattle.axis.specs.Axis.{excessOf, placeOf}
 use Rattle.axis.specs.Bounds.{Bounded}
-use Rattle.block.specs.declared.Sides.{Sides}
-use Rattle.block.specs.declared.Planes.{Planes}
 use Rattle.block.specs.declared.Settings.{Settings}
 use Rattle.block.specs.declared.Block.{Block}
-use Rattle.block.specs.declared.Shape.{Shape}
-use Rattle.block.specs.declared.Spot.{Spot}
-use Rattle.block.specs.Shapes.{originOf, sideOf, axisOf, negativeOf, shapeOf, movesOf, chromaPlace, spotOf}
+use Rattle.block.specs.Shapes.{originOf, sideOf, axisOf, negativeOf, shapeOf, chromaPlace, spotOf}
 use Rattle.block.specs.Asked.{Addressed, Shaped, SpotHeld, Along, Lies, Ready}
 
 -- ---- one axis: from `at` for `side` lies inside the frame

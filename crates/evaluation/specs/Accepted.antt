@@ -1,22 +1,22 @@
 -- What passing the tests says: the refusals leave all that a block's best asks. Assumes nothing.
-use mathlib.Core.Path.{_≡_, refl, sym, ap, subst, _∙_}
-use mathlib.Core.Bool.{Bool, true, false, _&&_, _||_, not, cond}
+use mathlib.Core.Path.{_≡_, refl, sym, subst}
+use mathlib.Core.Bool.{Bool, true, false, _&&_, _||_, cond}
 use mathlib.Core.List.{List}
-use Prim.Native.Nat.{ℕ, suc, _+_, _*_, _/_, _≤_, _<_}
+use Prim.Native.Nat.{ℕ, _+_, _*_, _/_, _≤_, _<_}
 use native.Mathlib.Omega.{arith}
-use borrow.Author.Tests.{leb-true, not-false}
+use borrow.Author.Tests.{leb-true}
 use lib.Dec.{eqb, leb}
-use lib.IntN.{ℤ, pos, negsuc, natAbs, _+ℤ_, _-ℤ_, _*ℤ_}
+use lib.IntN.{ℤ, pos, negsuc, natAbs, _-ℤ_, _*ℤ_}
 use lib.ListN.{length}
 use lib.Signed.{ltZ, leZ, _≤ℤ_}
 use Prim.Native.Nat.{_%_}
 use Rattle.limits.specs.Ranges.{radius-within, shift-within, same-is}
 use Rattle.whole.specs.Numbers.{liesIn, fitsI16}
-use Rattle.whole.specs.Signed.{P, N, signed, abs-is, add-is, diff-is, times-is, eq-is}
+use Rattle.whole.specs.Signed.{P, N, signed, abs-is, add-is, diff-is, times-is}
 use Rattle.whole.specs.Truth.{left-of, right-of, lies-low, lies-high, three-of, four-of, five-of, six-of}
 use Rattle.whole.specs.Interval.{Within, i16-within}
 use Rattle.limits.specs.Limits.{same, isBlock, isFrameSide, isPel, areShifts, shiftedBy, radiusOf}
-use Rattle.limits.specs.Refusals.{first, anyUpto}
+use Rattle.limits.specs.Refusals.{first}
 use Rattle.limits.specs.Refused.{first-passed, each-fails, neither-first, neither-second, let-through}
 use Rattle.records.specs.declared.Pair.{Pair}
 use Rattle.records.specs.declared.Record.{Record}
@@ -25,10 +25,8 @@ use Rattle.window.specs.Windows.{isBad, sideOf, mostOf, windowWide, isWide}
 use Rattle.plane.specs.declared.Place.{Place}
 use Rattle.plane.specs.Places.{limitsHold, keepsLength, Placed}
 use Rattle.plane.specs.Offsets.{accepted-placed}
-use Rattle.choosing.specs.declared.Choice.{Choice}
 use Rattle.choosing.specs.Choosing.{countOf}
-use Rattle.choosing.specs.Bounds.{Ranged, Narrow, Served}
-use Rattle.block.specs.declared.Planes.{Planes}
+use Rattle.choosing.specs.Bounds.{Ranged, Narrow}
 use Rattle.block.specs.declared.Sides.{Sides}
 use Rattle.best.specs.declared.Task.{Task}
 use Rattle.best.specs.Best.{choiceOf}

@@ -1,5 +1,5 @@
 -- What BlockCost says: the ranges that accepted numbers lie in, and each outcome. Assumes nothing.
-use mathlib.Core.Path.{_≡_, refl, sym}
+use mathlib.Core.Path.{_≡_, sym}
 use mathlib.Core.Bool.{Bool, true, false, _&&_, _||_}
 use mathlib.Core.List.{List, _++_}
 use mathlib.Core.Logic.{⊎-elim}
@@ -9,9 +9,8 @@ use borrow.Author.Tests.{lt-ltb, le-ltb}
 use lib.Dec.{eqb·suc-zero}
 use lib.IntN.{ℤ, pos, natAbs}
 use lib.ListN.{length, drop}
-use lib.Signed.{ltZ, leZ}
 use Rattle.whole.specs.Numbers.{liesIn}
-use Rattle.whole.specs.Signed.{P, N, signed, abs-is}
+use Rattle.whole.specs.Signed.{signed, abs-is}
 use Rattle.whole.specs.Truth.{left-of, right-of, either-of, lies-low, lies-high}
 use Rattle.whole.specs.Interval.{Within}
 use Rattle.little_endian.specs.Bytes.{bytesOf}

@@ -1,19 +1,17 @@
 -- A plan that is done has the slots that hirupango_slots gives and the diagonal that hirupango_diagonal gives, of the same settings: so hirupango_plan, which
 -- answers a number alone, keeps nothing back. Assumes nothing.
-use mathlib.Core.Path.{_≡_, refl, sym, ap, _∙_}
+use mathlib.Core.Path.{_≡_, refl, ap, _∙_}
 use mathlib.Core.Bool.{Bool, true, cond}
 use mathlib.Core.List.{List}
 use Prim.Native.Nat.{ℕ, zero, suc}
 use native.Mathlib.Omega.{arith}
 use lib.IntN.{ℤ, pos, negsuc}
 use lib.Signed.{leZ}
-use Rattle.whole.specs.Numbers.{liesIn}
 use Rattle.whole.specs.Signed.{signed}
-use Rattle.whole.specs.Interval.{Within}
 use Rattle.score.specs.declared.Answer.{Answer}
 use Rattle.score.specs.declared.Answer.the-variants.{Is}
 use Rattle.score.specs.declared.Answer.the-variants as answer
-use Rattle.score.specs.Diagonal.{frameFits, diagonalOf, diagonalAnswer}
+use Rattle.score.specs.Diagonal.{diagonalOf, diagonalAnswer}
 use Rattle.block.specs.declared.Settings.{Settings}
 use Rattle.planning.specs.declared.Made.{Made}
 use Rattle.planning.specs.declared.Planned.{Planned}

@@ -20,7 +20,7 @@ use lib.Ieee.Nearest.{div-same}
 use lib.Ieee.Bits.{ofBits-toBits}
 use Rattle.whole.specs.Signed.{lt-or-ge}
 use Rattle.ieee_root.specs.SquareRoot.{plain, Less, sumNum, sumDen, fourTimes, sumSquared, IsSqrt, IsNearest}
-use Rattle.ieee_root.specs.Fractions.{not-lt, square-above, square-below, sum-over, less-than, more-than, value-plain, dyadic}
+use Rattle.ieee_root.specs.Fractions.{not-lt, square-above, square-below, less-than, more-than, value-plain, dyadic}
 
 -- ---- every value b / d of binary64 is a whole number of K-th parts, K = 2 ^ k, or less than 2 ^ 52 of them
 OnGrid : ℕ → ℕ → ℕ → Type 0

@@ -4,21 +4,18 @@
 --
 -- What Rust's three steps mean is said in RustRoot. For every frame and pel that is accepted, some x is what `sqrt` gives, only that one, and the entry's
 -- answer is pel x the whole part of x. Another frame or pel is refused. Assumes nothing.
-use mathlib.Core.Path.{_≡_, refl, sym, ap, subst, _∙_}
-use mathlib.Core.Bool.{true, false, _&&_}
-use Prim.Native.Nat.{ℕ, _+_, _*_, _≤_}
-use native.Mathlib.Omega.{arith}
+use mathlib.Core.Path.{_≡_, refl, sym, ap, subst}
+use mathlib.Core.Bool.{true, false}
+use Prim.Native.Nat.{_+_, _*_, _≤_}
 use lib.IntN.{ℤ, pos, negsuc, natAbs, _+ℤ_, _*ℤ_}
 use lib.Ieee.{Float, binary64, ofInt, toSigned}
-use Rattle.whole.specs.Numbers.{rootOf}
 use Rattle.whole.specs.Signed.{signed, abs-is}
 use Rattle.whole.specs.Truth.{three-of, lies-low, lies-high}
 use Rattle.limits.specs.Limits.{isFrameSide, isPel}
-use Rattle.score.specs.declared.Answer.{Answer}
 use Rattle.score.specs.declared.Answer.the-variants.{Is, Refused}
 use Rattle.score.specs.Diagonal.{squared, diagonalOf, frameFits, diagonalAnswer}
 use Rattle.ieee_root.specs.SquareRoot.{IsSqrt}
-use Rattle.ieee_root.specs.RustRoot.{RustRoot, rust-diagonal}
+use Rattle.ieee_root.specs.RustRoot.{rust-diagonal}
 
 -- what the Rust takes the root of
 abbrev pub squares : ℤ → ℤ → ℤ

@@ -2,7 +2,7 @@
 -- It is at least r, since r is itself a value of the format: anything less would have r nearer. It is below r + 1, since (r + 1) - 1 / 65536 is
 -- a value of the format and still above the middle between the true root and r + 1: anything from r + 1 on would have that one nearer.
 use mathlib.Core.Path.{_≡_, ap}
-use mathlib.Core.Bool.{Bool, true, false}
+use mathlib.Core.Bool.{true, false}
 use Prim.Native.Nat.{ℕ, _+_, _*_, _/_, _^_, _≤_, _<_}
 use native.Mathlib.Nat.{lt-of-not-le, mul-le-mul, mul-le-mul-right, le-of-mul-le-mul-right, mul-pos, div-eq-of-lt-le}
 use native.Mathlib.Omega.{arith}

@@ -1,10 +1,10 @@
 -- How large the accepted numbers are: what holds at pel 1, 2 and 4 holds at every pel, what holds at radius 0 to 3 at every radius. Assumes nothing.
 use mathlib.Core.Path.{_≡_}
-use mathlib.Core.Bool.{Bool, true, _&&_, _||_}
+use mathlib.Core.Bool.{true, _&&_, _||_}
 use mathlib.Core.Logic.{_⊎_, inl, inr, ⊎-elim}
 use native.Mathlib.Omega.{arith}
 use Prim.Native.Nat.{zero, suc}
-use lib.IntN.{ℤ, pos, negsuc, natAbs}
+use lib.IntN.{ℤ, pos, negsuc}
 use Rattle.whole.specs.Numbers.{liesIn}
 use Rattle.whole.specs.Signed.{signed, abs-is}
 use Rattle.whole.specs.Truth.{left-of, right-of, either-of, lies-low, lies-high}

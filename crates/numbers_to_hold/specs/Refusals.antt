@@ -12,9 +12,6 @@ use Rattle.serpentine.specs.Answers.{positionRefusal, blockRefusal, orderRefusa
 use Rattle.plane.specs.declared.Place.{Place}
 use Rattle.block.specs.declared.Sides.{Sides}
 use Rattle.block.specs.declared.Planes.{Planes}
-use Rattle.block.specs.declared.Search.{Search}
-use Rattle.block.specs.declared.Weights.{Weights}
-use Rattle.block.specs.declared.Level.{Level}
 use Rattle.block.specs.declared.Settings.{Settings}
 use Rattle.planning.specs.Refusals as planning
 use Rattle.evaluation.specs.declared.Request.{Request}

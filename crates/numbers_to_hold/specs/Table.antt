@@ -1,7 +1,7 @@
 -- 01, "Numbers to hold on to": every line marked P, in the paper's order, as one table. A row is what a definition gives, as numbers, and the numbers that the
 -- paper has; the one theorem at the end says that each row's two sides are equal, by computation. Assumes nothing.
-use mathlib.Core.Path.{_≡_, refl}
-use mathlib.Core.Bool.{Bool, true, false}
+use mathlib.Core.Path.{refl}
+use mathlib.Core.Bool.{true, false}
 use mathlib.Core.List.{List, [], _∷_, _++_}
 use Prim.Native.Nat.{ℕ, zero, suc}
 use lib.IntN.{ℤ, pos, negsuc}
@@ -23,7 +23,6 @@ use Rattle.plane.specs.declared.Place.{Place}
 use Rattle.plane.specs.Places.{subpelOf}
 use Rattle.axis.specs.declared.Axis.{Axis}
 use Rattle.axis.specs.Axis.{excessOf, placeOf, windowOf}
-use Rattle.block.specs.declared.Weights.{Weights}
 use Rattle.block.specs.Shapes.{lambdaOf, negativeOf, axisOf, shapeOf, chromaPlace, spotOf}
 use Rattle.block.specs.Steps.{filledWith, settledAt, quietRecord, badRecord, badStep, quietStep, stepWith, stepOf}
 use Rattle.limits.specs.Refusals.{anyUpto}

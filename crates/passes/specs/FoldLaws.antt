@@ -11,7 +11,6 @@ use lib.IntN.{ℤ, pos, natAbs}
 use lib.ListN.{length, getD, set, take, drop, length-append, length-drop}
 use lib.Seq.{paste, take-at, take-all, drop-append-add, drop-drop, drop-cons, set-at, append-snoc}
 use Rattle.whole.specs.Signed.{signed, abs-is, lt-or-ge}
-use Rattle.records.specs.declared.Record.{Record}
 use Rattle.records.specs.declared.Words.{Words}
 use Rattle.records.specs.Packing.{recordFits, recordWords}
 use Rattle.slots.specs.declared.Slots.{Slots}

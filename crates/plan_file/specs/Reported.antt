@@ -9,7 +9,7 @@ use lib.Dec.{leb, ltb}
 use lib.IntN.{natAbs}
 use lib.ListN.{length, drop}
 use Rattle.whole.specs.Signed.{holds, lt-or-ge}
-use Rattle.limits.specs.Refusals.{first, kept}
+use Rattle.limits.specs.Refusals.{first}
 use Rattle.report_text.specs.Putting.{lentAnswer, lentLine}
 use Rattle.report_text.specs.declared.Written.{Written}
 use Rattle.report_text.specs.declared.Written.the-variants as written

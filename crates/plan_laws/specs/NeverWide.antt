@@ -1,19 +1,17 @@
 -- A plan whose records all fit is never refused 7 by evaluating with the same radius. Assumes nothing.
-use mathlib.Core.Path.{_≡_, refl, ap, _∙_}
-use mathlib.Core.Bool.{Bool, true, false, _||_}
+use mathlib.Core.Path.{_≡_, ap, _∙_}
+use mathlib.Core.Bool.{true, false}
 use mathlib.Core.List.{List, _++_}
-use Prim.Native.Nat.{ℕ, zero, suc, _<_, _≤_}
-use native.Mathlib.Omega.{arith}
+use Prim.Native.Nat.{ℕ}
 use lib.IntN.{ℤ}
 use Rattle.limits.specs.Limits.{radiusOf}
 use Rattle.limits.specs.Refused.{none-passes}
-use Rattle.records.specs.declared.Record.{Record}
 use Rattle.window.specs.Windows.{isWide}
 use Rattle.record_slice.specs.RecordSlice.{recordAt, anyWide}
 use Rattle.block.specs.declared.Settings.{Settings}
 use Rattle.passes.specs.Fold.{blockAt, slotsAt, allFit, wordsUpto}
 use Rattle.plan_laws.specs.Windows.{planned-narrow}
-use Rattle.plan_laws.specs.ReadBack.{planned, record-read}
+use Rattle.plan_laws.specs.ReadBack.{record-read}
 
 module _ (s : Settings) (order vectors : List ℤ) where
   pub never-wide : (n : ℕ) (tail : List ℤ) → allFit s order vectors n ≡ true →

@@ -13,20 +13,17 @@ use Rattle.records.specs.declared.Record.{Record}
 use Rattle.slots.specs.declared.Source.{Source}
 use Rattle.slots.specs.declared.Slots.{Slots}
 use Rattle.slots.specs.Slots.{noSource, atStart, lumaWritten, chromaWritten, activeOf, withActive, lumaInActive, chromaInActive}
-use Rattle.axis.specs.Axis.{placeOf}
-use Rattle.block.specs.declared.Sides.{Sides}
 use Rattle.block.specs.declared.Planes.{Planes}
 use Rattle.block.specs.declared.Settings.{Settings}
 use Rattle.block.specs.declared.Block.{Block}
-use Rattle.block.specs.declared.Shape.{Shape}
 use Rattle.block.specs.declared.Spot.{Spot}
 use Rattle.block.specs.declared.Step.{Step}
 use Rattle.block.specs.Shapes.{shapeOf, lambdaOf, isBad, movesOf, spotOf}
 use Rattle.block.specs.Steps.{filledWith, settledAt, quietRecord, badRecord, badStep, lumaStep, quietStep, stepWith, stepOf}
-use Rattle.block.specs.Asked.{Addressed, SpotHeld, Ready}
+use Rattle.block.specs.Asked.{SpotHeld, Ready}
 use Rattle.block.specs.Reach.{Inside, across-inside, down-inside, place-inside, spot-held, origin-addressed}
 use Rattle.passes.specs.Fold.{blockAt, turnAt, slotsAt}
-use Rattle.passes.specs.Asked.{Serves, Served}
+use Rattle.passes.specs.Asked.{Served}
 
 -- ---- offsets
 -- an offset that is there lies from 0 to 1,073,741,822

@@ -1,6 +1,6 @@
 -- What planning writes is what evaluating reads: of a plan whose records all fit, the i-th record read is the i-th that was planned. Assumes nothing.
-use mathlib.Core.Path.{_≡_, refl, sym, ap, subst, _∙_}
-use mathlib.Core.Bool.{Bool, true, false, _&&_}
+use mathlib.Core.Path.{_≡_, sym, ap, subst, _∙_}
+use mathlib.Core.Bool.{true}
 use mathlib.Core.List.{List, _++_, append-assoc}
 use mathlib.Core.Logic.{⊎-elim}
 use Prim.Native.Nat.{ℕ, zero, suc, _+_, _*_, _<_}
@@ -12,7 +12,7 @@ use Rattle.whole.specs.Signed.{lt-or-ge}
 use Rattle.whole.specs.Truth.{left-of, right-of}
 use Rattle.records.specs.declared.Record.{Record}
 use Rattle.records.specs.declared.Words.{Words}
-use Rattle.records.specs.Packing.{recordFits, recordWords, packedRecord}
+use Rattle.records.specs.Packing.{recordFits, recordWords}
 use Rattle.records.specs.Unpacking.{recordOf}
 use Rattle.records.specs.Alike.{alike-words}
 use Rattle.records.specs.RoundTrip.{back}

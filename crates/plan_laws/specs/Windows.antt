@@ -1,21 +1,19 @@
 -- The window of every record that planning makes lies inside predictor ± radius, so that it is never too wide for evaluating with the same radius.
 -- Nothing is asked of the settings, the block or the slots. Assumes nothing.
 use mathlib.Core.Path.{_≡_, refl, sym, ap, _∙_}
-use mathlib.Core.Bool.{Bool, true, false, _&&_, _||_, cond}
+use mathlib.Core.Bool.{Bool, true, false, _&&_, cond}
 use lib.IntN.{ℤ, pos, _+ℤ_, _-ℤ_, _*ℤ_}
-use lib.Signed.{ltZ, leZ, _≤ℤ_}
+use lib.Signed.{ltZ, _≤ℤ_}
 use Rattle.limits.specs.Limits.{radiusOf}
 use Rattle.whole.specs.Numbers.{lesserOf, greaterOf}
-use Rattle.whole.specs.Signed.{P, N, signed, add-is, diff-is, times-is}
+use Rattle.whole.specs.Signed.{signed, add-is, diff-is, times-is}
 use Rattle.records.specs.declared.Offset.{Offset}
-use Rattle.records.specs.declared.Record.{Record}
 use Rattle.window.specs.Windows.{isBad, sideOf, mostOf, windowWide, isWide}
 use Rattle.slots.specs.declared.Slots.{Slots}
 use Rattle.axis.specs.declared.Axis.{Axis}
-use Rattle.axis.specs.Axis.{leastOf, endOf, windowOf}
+use Rattle.axis.specs.Axis.{windowOf}
 use Rattle.block.specs.declared.Settings.{Settings}
 use Rattle.block.specs.declared.Block.{Block}
-use Rattle.block.specs.declared.Shape.{Shape}
 use Rattle.block.specs.Shapes.{axisOf, shapeOf, lambdaOf, movesOf, spotOf}
 use Rattle.block.specs.Shapes.{isBad as blockIsBad}
 use Rattle.block.specs.Steps.{quietRecord, badRecord, badStep, lumaStep, quietStep, stepWith, stepOf}

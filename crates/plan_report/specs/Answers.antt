@@ -1,5 +1,5 @@
 -- A text's length is no refusal, and one text has one length. Assumes nothing.
-use mathlib.Core.Path.{_≡_, sym, _∙_}
+use mathlib.Core.Path.{_≡_}
 use Prim.Native.Nat.{ℕ}
 use native.Mathlib.Omega.{arith}
 use Rattle.report_text.specs.declared.Written.{Written}

@@ -1,7 +1,6 @@
 -- Laws of Places: one formula for every pel, that an accepted plane's offsets are near, and that the length rule can be asked without a sum. Assumes nothing.
 use mathlib.Core.Path.{_≡_, refl, sym, ap, _∙_}
 use mathlib.Core.Bool.{Bool, true, false}
-use mathlib.Core.Logic.{_⊎_, inl, inr, ⊎-elim}
 use Prim.Native.Nat.{ℕ, suc, _+_, _-_, _*_, _≤_, _<_}
 use native.Mathlib.Omega.{arith}
 use lib.Dec.{leb, lit<}
@@ -10,8 +9,8 @@ use lib.Signed.{shrZ, leZ, ltZ, _≤ℤ_}
 use mir.Syntax.{w32}
 use mir.Val.{SFits}
 use borrow.Author.Tests.{leb-true, leb-false}
-use Rattle.whole.specs.Numbers.{modZ, liesIn}
-use Rattle.whole.specs.Signed.{P, N, signed, add-is, diff-is, abs-is, lt-or-ge}
+use Rattle.whole.specs.Numbers.{modZ}
+use Rattle.whole.specs.Signed.{P, N, signed, add-is, diff-is, abs-is}
 use Rattle.whole.specs.Truth.{left-of, right-of, lies-low, lies-high}
 use Rattle.whole.specs.Floor.{mod-below, fit-floor}
 use Rattle.whole.specs.Interval.{Within, within-32, within-more, within-add, within-times}

@@ -1,19 +1,19 @@
 -- What passing the tests says: the refusals leave all that the two passes ask. Assumes nothing.
 use mathlib.Core.Path.{_≡_, refl, sym, ap, subst, _∙_}
-use mathlib.Core.Bool.{Bool, true, false, _&&_, _||_, not, cond}
+use mathlib.Core.Bool.{Bool, true, false, _&&_, _||_, cond}
 use mathlib.Core.List.{List}
 use mathlib.Core.Logic.{⊎-elim}
 use Prim.Native.Nat.{ℕ, zero, suc, _+_, _*_, _≤_, _<_}
 use native.Mathlib.Nat.{mul-le-mul, mul-comm}
 use native.Mathlib.Omega.{arith}
-use borrow.Author.Tests.{leb-true, eqb-true, not-false}
+use borrow.Author.Tests.{leb-true, eqb-true}
 use lib.Dec.{eqb, leb, lit<}
 use lib.IntN.{ℤ, pos, negsuc, natAbs, _+ℤ_, _-ℤ_, _*ℤ_}
 use lib.ListN.{length, getD}
 use lib.Signed.{ltZ, leZ, shrZ, _≤ℤ_, _<ℤ_}
 use Rattle.limits.specs.Ranges.{pel-within, same-is}
 use Rattle.whole.specs.Numbers.{liesIn, fitsI16}
-use Rattle.whole.specs.Signed.{P, N, signed, abs-is}
+use Rattle.whole.specs.Signed.{signed, abs-is}
 use Rattle.whole.specs.Truth.{left-of, right-of, either-of, lies-low, lies-high, three-of, four-of, five-of, six-of}
 use Rattle.whole.specs.Floor.{floor-low, floor-high}
 use Rattle.whole.specs.Interval.{Within}
@@ -25,14 +25,13 @@ use Rattle.score.specs.declared.Answer.the-variants.{Is}
 use Rattle.score.specs.declared.Answer.the-variants as diagonal
 use Rattle.score.specs.Diagonal.{frameFits, diagonalOf, diagonalAnswer, answerNumber}
 use Rattle.plane.specs.declared.Place.{Place}
-use Rattle.plane.specs.Places.{limitsHold, lastEnd, keepsLength, Placed}
+use Rattle.plane.specs.Places.{limitsHold, lastEnd, keepsLength}
 use Rattle.plane.specs.Offsets.{accepted-placed}
 use Rattle.block.specs.declared.Sides.{Sides}
-use Rattle.block.specs.declared.Planes.{Planes}
 use Rattle.block.specs.declared.Settings.{Settings}
-use Rattle.block.specs.Asked.{Along, Lies, Ready}
+use Rattle.block.specs.Asked.{Along, Lies}
 use Rattle.passes.specs.Fold.{indexAt, blockAt, allFit}
-use Rattle.passes.specs.Asked.{Listed, Serves, Served}
+use Rattle.passes.specs.Asked.{Served}
 use Rattle.planning.specs.declared.Made.{Made}
 use Rattle.planning.specs.declared.Planned.the-variants.{Done, Refused}
 use Rattle.planning.specs.Planned.{answered}

@@ -9,7 +9,6 @@ use lib.Dec.{ltb}
 use lib.IntN.{ℤ}
 use lib.ListN.{length}
 use Rattle.limits.specs.Refusals.{first}
-use Rattle.records.specs.declared.Pair.{Pair}
 use Rattle.records.specs.declared.Record.{Record}
 use Rattle.records.specs.Packing.{pairFits, packedPair, pairNumber, recordFits, packedRecord, recordNumber}
 use Rattle.serpentine.specs.Answers.{positionRefusal, positionAnswer, positionNumber, blockRefusal, blockAnswer, blockNumber}

@@ -1,12 +1,12 @@
 -- What the limits leave of the numbers on the way to a diagonal and a score. Laws that the proofs cite. Assumes nothing.
 use mathlib.Core.Path.{_≡_}
 use mathlib.Core.Bool.{true}
-use Prim.Native.Nat.{ℕ, _+_, _*_, _/_, _^_, _≤_, _<_}
+use Prim.Native.Nat.{ℕ, _+_, _*_, _/_, _≤_, _<_}
 use native.Mathlib.Nat.{lt-of-not-le, mul-le-mul, div-le-self, le-trans}
 use native.Mathlib.Omega.{arith}
-use lib.IntN.{ℤ, pos, negsuc, natAbs}
-use Rattle.whole.specs.Numbers.{liesIn, rootOf, fitsI16}
-use Rattle.whole.specs.Signed.{P, N, signed, abs-is}
+use lib.IntN.{ℤ, pos, natAbs}
+use Rattle.whole.specs.Numbers.{rootOf, fitsI16}
+use Rattle.whole.specs.Signed.{signed, abs-is}
 use Rattle.whole.specs.Truth.{lies-low, lies-high}
 use Rattle.whole.specs.Interval.{Within, i16-within}
 use Rattle.whole.specs.Root.{root-is}

@@ -23,7 +23,7 @@ use Rattle.plane.specs.Places.{Near}
 use Rattle.plane.specs.Reads.{sample-byte}
 use Rattle.plane_view.specs.View.{placeBlock, placeCost}
 use Rattle.choosing.specs.declared.Choice.{Choice}
-use Rattle.choosing.specs.Choosing.{countOf, columnsOf, rowsOf, slotOf}
+use Rattle.choosing.specs.Choosing.{columnsOf, rowsOf, slotOf}
 use Rattle.choosing.specs.Bounds.{Narrow, Small}
 use Rattle.tables.specs.declared.Reference.{Reference}
 use Rattle.tables.specs.Tables.{vectorOffset, vectorCost, candidateOf, withRow, withRows, withPredictor, tableOf}

@@ -1,10 +1,10 @@
 -- The quotient rounded down (`shrZ`), the remainder that goes with it (`modZ`), and the quotient rounded toward zero (`quotZ`), over any divisor. Assumes
 -- nothing.
 use mathlib.Core.Path.{_≡_, refl, sym, ap, _∙_}
-use Prim.Native.Nat.{ℕ, zero, suc, _+_, _-_, _*_, _/_, _%_, _≤_, _<_}
+use Prim.Native.Nat.{ℕ, suc, _+_, _-_, _*_, _/_, _%_, _≤_, _<_}
 use native.Mathlib.Nat.{zero-div, mod-lt, div-add-mod'}
 use native.Mathlib.Omega.{arith}
-use lib.Arith.{digits-div, digits-mod}
+use lib.Arith.{digits-div}
 use lib.IntN.{ℤ, pos, negsuc, _+ℤ_, _*ℤ_}
 use lib.Signed.{quotZ, shrZ, mag-shr}
 use mir.Syntax.{Width}

@@ -2,11 +2,10 @@
 -- Each lemma once, for every width. Assumes nothing.
 use mathlib.Core.Path.{_≡_, refl, sym, ap, _∙_}
 use mathlib.Core.Bool.{Bool}
-use mathlib.Core.Logic.{_⊎_, inl, inr, ⊎-elim}
-use Prim.Native.Nat.{ℕ, zero, suc, _+_, _-_, _*_, _/_, _%_, _^_, _≤_, _<_}
+use mathlib.Core.Logic.{_⊎_, ⊎-elim}
+use Prim.Native.Nat.{ℕ, suc, _+_, _-_, _*_, _/_, _%_, _^_, _≤_, _<_}
 use native.Mathlib.Nat.{
   mod-lt,
-  mul-assoc,
   add-mul,
   div-add-mod',
   mul-lt-mul-of-pos-right,
@@ -22,12 +21,12 @@ use lib.Arith.{digits-div, digits-mod, mod-mul}
 use lib.IntN.{ℤ, pos, negsuc, _+ℤ_, _*ℤ_}
 use lib.Signed.{shrZ}
 use borrow.Author.Tests.{le-ltb}
-use mir.Syntax.{Width, w16, w32, w64}
+use mir.Syntax.{Width}
 use mir.Val.{SFits, toZ, ofZ, sel, bits, hbits}
 use mir.Facts.{toZ-ofZ, toZ-pos, sfits-toZ}
 use mir.ValLaws.{pow-bits}
 use Rattle.whole.specs.Numbers.{modZ, Wraps, wrapped}
-use Rattle.whole.specs.Signed.{P, N, add-is, times-is, eq-of, signed, range, lt-or-ge}
+use Rattle.whole.specs.Signed.{add-is, times-is, signed, lt-or-ge}
 use Rattle.whole.specs.Floor.{floor-is, mod-below, mod-only, mod-more, mod-times}
 
 pub power-positive : (w : Width) → 0 < 2 ^ bits w

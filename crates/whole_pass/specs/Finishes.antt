@@ -1,37 +1,35 @@
 -- The three entries one behind the other: after a plan that is done and its evaluation, finishing is done too, and the vectors and output words are those of
 -- the pass's own definition. Assumes nothing.
 use mathlib.Core.Path.{_≡_, refl, sym, ap, subst, _∙_}
-use mathlib.Core.Bool.{Bool, true, false, _&&_, _||_, not, cond}
-use mathlib.Core.List.{List, [], _++_, append-nil}
+use mathlib.Core.Bool.{Bool, true, false, _&&_, _||_, cond}
+use mathlib.Core.List.{List, [], append-nil}
 use mathlib.Core.Logic.{⊎-elim}
 use Prim.Native.Nat.{ℕ, zero, suc, _+_, _*_, _≤_, _<_}
 use native.Mathlib.Nat.{mul-le-mul}
 use native.Mathlib.Omega.{arith}
 use borrow.Author.Tests.{eq-eqb, le-ltb}
-use lib.Dec.{eqb, ltb, leb, lit<}
-use lib.IntN.{ℤ, pos, negsuc, natAbs, _*ℤ_}
+use lib.Dec.{eqb, ltb}
+use lib.IntN.{ℤ, pos, natAbs, _*ℤ_}
 use lib.ListN.{length, getD}
-use lib.Signed.{ltZ, leZ, _≤ℤ_, _<ℤ_}
+use lib.Signed.{ltZ, leZ, _≤ℤ_}
 use Rattle.evaluation.specs.BestsRead.{Reads, best-reads}
 use Rattle.limits.specs.Ranges.{at-each-pel}
-use Rattle.whole.specs.Numbers.{rootOf, liesIn, fitsI16}
+use Rattle.whole.specs.Numbers.{rootOf, fitsI16}
 use Rattle.whole.specs.Root.{root-is}
-use Rattle.whole.specs.Signed.{P, N, signed, abs-is, lt-or-ge}
-use Rattle.whole.specs.Truth.{left-of, right-of, both-of}
+use Rattle.whole.specs.Signed.{signed, abs-is, lt-or-ge}
+use Rattle.whole.specs.Truth.{left-of, right-of}
 use Rattle.whole.specs.Interval.{within-i16}
 use Rattle.limits.specs.Limits.{isPel, blocksOf}
-use Rattle.limits.specs.Refusals.{first, anyUpto}
+use Rattle.limits.specs.Refusals.{anyUpto}
 use Rattle.limits.specs.Refused.{none-passes, kept-done}
 use Rattle.records.specs.declared.Record.{Record}
 use Rattle.records.specs.Packing.{offsetsFit, pairsFit, lastFits, recordFits}
 use Rattle.window.specs.Windows.{isBad, isNegative}
 use Rattle.score.specs.Diagonal.{squared, diagonalOf}
-use Rattle.choosing.specs.Choosing.{selected}
 use Rattle.choosing.specs.Answers.{selected-ranged}
 use Rattle.record_slice.specs.RecordSlice.{recordAt}
 use Rattle.block.specs.declared.Settings.{Settings}
 use Rattle.best.specs.declared.Task.{Task}
-use Rattle.best.specs.declared.Best.{Best}
 use Rattle.best.specs.Best.{choiceOf, bestOf}
 use Rattle.passes.specs.Fold.{indexAt, turnAt, turnOf, allFit, wordsUpto, indicesUpto}
 use Rattle.passes.specs.FoldLaws.{indices-long}
@@ -42,20 +40,7 @@ use Rattle.evaluation.specs.declared.Request.{Request}
 use Rattle.evaluation.specs.Evaluated.{taskOf, bestAt, bestsUpto}
 use Rattle.evaluation.specs.BestsLaws.{bests-long}
 use Rattle.evaluation.specs.Accepted.{ranged}
-use Rattle.finishing.specs.Finish.{
-  refused1,
-  sidesOver,
-  refused2,
-  isStray,
-  refused4,
-  refused5,
-  isWild,
-  refused7,
-  finishAnswer,
-  finishVectors,
-  finishOutput,
-  writtenUpto,
-}
+use Rattle.finishing.specs.Finish.{refused1, refused2, isStray, refused4, refused5, isWild, refused7, finishAnswer, finishVectors, finishOutput, writtenUpto}
 use Rattle.finishing.specs.Finish as finish
 use Rattle.plan_laws.specs.ReadBack.{planned, record-read}
 use Rattle.whole_pass.specs.Pass.{passBest, storing, putting, passVectors, passOutput}

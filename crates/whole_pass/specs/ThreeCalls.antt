@@ -2,7 +2,7 @@
 -- reference planes pass 2's and 3's tests. Then evaluating is done and finishing is done, what finishing leaves is the pass, and behind what each call writes
 -- its buffer holds what it held. Evaluating is handed the words that planning wrote, finishing the indices and the bests: the fronts of the buffers. Assumes
 -- nothing.
-use mathlib.Core.Path.{_≡_, refl, sym, ap, _∙_}
+use mathlib.Core.Path.{_≡_, refl, ap, _∙_}
 use mathlib.Core.Bool.{Bool, true, cond}
 use mathlib.Core.List.{List, _++_}
 use Prim.Native.Nat.{ℕ, _*_, _/_, _≤_}

@@ -1,14 +1,12 @@
 -- The radius, and then every record. Assumes nothing.
-use borrow.Author.Needs.{needs}
 use mathlib.Core.Path.{_≡_, ap, _∙_}
-use mathlib.Core.Bool.{true}
 use native.Mathlib.Omega.{arith}
 use Prim.Native.Nat.{_/_}
 use lib.IntN.{ℤ}
 use lib.ListN.{length}
 use mir.Facts.{toZ-ofZ}
 use mir.Syntax.{w32}
-use mir.Val.{SFits, toZ, ofZ}
+use mir.Val.{toZ, ofZ}
 use Rattle.limits.specs.Limits.{radiusOf}
 use Rattle.whole.specs.Signed.{got}
 use Rattle.whole.specs.Interval.{is-within, read-within, fits}

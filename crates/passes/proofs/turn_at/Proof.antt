@@ -1,7 +1,6 @@
 -- The stages of a turn, one call each. Assumes nothing.
 use borrow.Author.Needs.{needs}
 use mathlib.Core.Path.{sym, subst}
-use Rattle.block.specs.declared.Block.{Block}
 use Rattle.block.specs.Asked.{Ready}
 use Rattle.passes.specs.FoldLaws.{turn-made}
 use Rattle.passes.proofs.turn_at.Statement.{statement}

@@ -1,16 +1,16 @@
 -- After i turns the words and indices of i blocks stand in front of the old tails. Assumes nothing.
 use borrow.Author.Needs.{needs}
-use mathlib.Core.Path.{_≡_, refl, sym, ap, _∙_}
+use mathlib.Core.Path.{_≡_, refl, ap, _∙_}
 use mathlib.Core.List.{List, _++_}
 use Prim.Native.Nat.{ℕ, _+_, _-_, _*_, _≤_, _<_}
 use native.Mathlib.Omega.{arith}
 use lib.IntN.{ℤ, pos}
-use lib.ListN.{set, drop}
+use lib.ListN.{drop}
 use lib.Seq.{paste}
 use mir.Facts.{toZ-ofZ}
 use mir.Syntax.{w32}
-use mir.Val.{SFits, toZ, ofZ}
-use Rattle.passes.specs.Fold.{wordList, slotsAt, indexAt, wordsUpto, indicesUpto}
+use mir.Val.{SFits}
+use Rattle.passes.specs.Fold.{wordList, slotsAt, wordsUpto, indicesUpto}
 use Rattle.passes.specs.FoldLaws.{Turned, index-is, index-small, Passed, passed-more, words-kept, indices-kept}
 use Rattle.passes.proofs.write_all.Statement.{statement}
 use Rattle.passes.proofs.write_all.Tie as tie

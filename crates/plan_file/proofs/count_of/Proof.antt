@@ -1,5 +1,5 @@
 -- A trailer that keeps its rules has a count from 0 on, and the file has so many records. Assumes nothing.
-use mathlib.Core.Path.{_≡_, sym, ap, _∙_}
+use mathlib.Core.Path.{ap}
 use native.Mathlib.Omega.{arith}
 use lib.IntN.{natAbs}
 use lib.ListN.{length}

@@ -1,17 +1,14 @@
 -- The trailer's numbers, and the records that are counted. Assumes nothing.
-use borrow.Author.Needs.{needs}
-use mathlib.Core.Path.{_≡_, sym, ap, _∙_}
-use Prim.Native.Nat.{ℕ}
+use mathlib.Core.Path.{ap, _∙_}
 use native.Mathlib.Omega.{arith}
-use lib.IntN.{pos, natAbs}
-use lib.ListN.{length}
+use lib.IntN.{pos}
 use mir.Facts.{toZ-ofZ, toZ-pos}
 use mir.Syntax.{w32}
 use mir.Val.{SFits}
 use Rattle.whole.specs.Signed.{got}
 use Rattle.window.specs.Windows.{isBad, slotsOf}
 use Rattle.plan_file.specs.declared.Trailer.{Trailer}
-use Rattle.plan_file.specs.PlanFile.{trailerOf, tally, headOf}
+use Rattle.plan_file.specs.PlanFile.{tally, headOf}
 use Rattle.plan_file.specs.Counting.{counted-most}
 use Rattle.plan_file.specs.Served.{served}
 use Rattle.plan_file.specs.Alike.{alike-heads}

@@ -1,5 +1,4 @@
 -- A line for each record. Assumes nothing.
-use borrow.Author.Needs.{needs}
 use Prim.Native.Nat.{_-_, _≤_}
 use native.Mathlib.Omega.{arith}
 use Rattle.plan_report.proofs.print_lines.Statement.{statement}

@@ -1,6 +1,6 @@
 -- The frame's sides and the pel are within the limits, so that the diagonal is not refused. Assumes nothing.
 use borrow.Author.Needs.{needs}
-use mathlib.Core.Path.{_≡_, refl, sym, ap, _∙_}
+use mathlib.Core.Path.{_≡_, sym, ap, _∙_}
 use mathlib.Core.Bool.{true}
 use lib.IntN.{ℤ, pos}
 use lib.Signed.{leZ}

@@ -1,10 +1,9 @@
 -- Refused, and nothing lent is touched; or written by the second pass. Assumes nothing.
 use borrow.Author.Needs.{needs}
-use mathlib.Core.Path.{_≡_, refl, sym, ap, _∙_}
-use mathlib.Core.List.{List, _++_}
+use mathlib.Core.Path.{_≡_, sym, ap, _∙_}
+use mathlib.Core.List.{_++_}
 use Prim.Native.Nat.{ℕ, _*_, _<_}
 use native.Mathlib.Omega.{arith}
-use lib.IntN.{ℤ}
 use lib.ListN.{length, drop}
 use Rattle.passes.specs.Fold.{wordsUpto, indicesUpto}
 use Rattle.planning.specs.declared.Planned.the-variants.{Done}

@@ -1,13 +1,10 @@
 -- The tests one after the other. Assumes nothing.
 use borrow.Author.Needs.{needs}
 use borrow.Author.Tests.{not-true, not-false}
-use mathlib.Core.Path.{_≡_, refl, sym, ap, _∙_}
-use mathlib.Core.Bool.{Bool, true, false, _&&_}
-use Prim.Native.Nat.{ℕ, _*_, _≤_}
+use mathlib.Core.Path.{_≡_, sym, _∙_}
+use mathlib.Core.Bool.{true}
 use native.Mathlib.Omega.{arith}
 use lib.ListN.{length}
-use Rattle.passes.specs.Asked.{Served}
-use Rattle.passes.specs.Fold.{allFit}
 use Rattle.planning.specs.Refusals.{blockCount, holds1, holds2, vectorsFit, holds3, orderHolds, hasRoom, refusalOf}
 use Rattle.planning.specs.Accepted.{settings, count-small, listed-is, held-is, served}
 use Rattle.planning.proofs.refusal.Statement.{statement}

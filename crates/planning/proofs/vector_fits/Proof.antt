@@ -1,7 +1,6 @@
 -- Both components are asked. Assumes nothing.
 use borrow.Author.Needs.{needs}
-use native.Mathlib.Omega.{arith}
-use lib.IntN.{ℤ, pos}
+use lib.IntN.{pos}
 use lib.ListN.{getD}
 use Prim.Native.Nat.{_+_, _*_}
 use mir.Facts.{toZ-ofZ}

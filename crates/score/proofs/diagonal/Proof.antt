@@ -5,14 +5,14 @@ use mathlib.Core.Path.{_≡_, sym, ap, _∙_}
 use mathlib.Core.Bool.{true, _&&_}
 use Prim.Native.Nat.{ℕ, _+_, _*_, _≤_}
 use native.Mathlib.Omega.{arith}
-use lib.IntN.{ℤ, pos, _*ℤ_, natAbs}
+use lib.IntN.{ℤ, pos, _*ℤ_}
 use mir.Facts.{toZ-ofZ, toZ-pos}
 use mir.Syntax.{w32}
-use mir.Val.{SFits, toZ, ofZ}
+use mir.Val.{toZ, ofZ}
 use Rattle.limits.specs.Ranges.{pel-within}
 use Rattle.whole.specs.Numbers.{rootOf}
 use Rattle.whole.specs.Truth.{left-of, right-of}
-use Rattle.whole.specs.Interval.{Within, Is, is-arg, within-more, ask-unsigned, ask-times, is-times, fits}
+use Rattle.whole.specs.Interval.{Is, is-arg, within-more, ask-unsigned, ask-times, is-times, fits}
 use Rattle.limits.specs.Limits.{isFrameSide, isPel}
 use Rattle.score.specs.declared.Answer.the-variants.{Is as Answered}
 use Rattle.score.specs.Diagonal.{squared, diagonalOf, frameFits, diagonalAnswer}

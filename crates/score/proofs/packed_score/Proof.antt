@@ -3,7 +3,7 @@ use borrow.Author.Needs.{needs}
 use borrow.Author.Tests.{not-true, not-false}
 use mathlib.Core.Path.{_≡_, refl, sym, ap, _∙_}
 use mathlib.Core.Bool.{true, _&&_}
-use Prim.Native.Nat.{ℕ, _+_, _*_, _/_, _<_, _≤_}
+use Prim.Native.Nat.{_+_, _*_, _≤_}
 use native.Mathlib.Omega.{arith}
 use lib.Dec.{lit≤}
 use lib.IntN.{ℤ, pos, _+ℤ_, _*ℤ_, natAbs}
@@ -14,7 +14,7 @@ use mir.Val.{SFits, toZ, ofZ}
 use Rattle.whole.specs.Numbers.{modZ, wrapped, fitsI16}
 use Rattle.whole.specs.Signed.{signed, range, abs-is, got}
 use Rattle.whole.specs.Truth.{left-of, right-of}
-use Rattle.whole.specs.Interval.{Within, Is, is-arg, ask-unsigned}
+use Rattle.whole.specs.Interval.{Is, is-arg, ask-unsigned}
 use Rattle.whole.specs.Wrapping.{masked, shifted-and-added}
 use Rattle.score.specs.declared.Answer.the-variants.{Is as Answered}
 use Rattle.score.specs.Score.{shareOf, scored, scoreFits, packedScore, scoreAnswer}

@@ -1,6 +1,6 @@
 -- The three tests are joined. Assumes nothing.
 use borrow.Author.Needs.{needs}
-use mathlib.Core.Path.{refl, ap}
+use mathlib.Core.Path.{ap}
 use lib.IntN.{ℤ, pos}
 use lib.Signed.{ltZ}
 use mir.Facts.{toZ-ofZ}

@@ -5,9 +5,8 @@ use native.Mathlib.Omega.{arith}
 use lib.IntN.{ℤ, pos, _-ℤ_, natAbs}
 use mir.Facts.{toZ-ofZ}
 use mir.Syntax.{w32, w64}
-use mir.Val.{toZ, ofZ}
 use Rattle.whole.specs.Signed.{signed, range, abs-is, diff-is}
-use Rattle.whole.specs.Interval.{Within, Is, is-arg, is-literal, word, widened, ask-cast, ask-sub, is-sub, ask-unsigned}
+use Rattle.whole.specs.Interval.{Within, is-arg, is-literal, word, widened, ask-cast, ask-sub, is-sub, ask-unsigned}
 use Rattle.whole.proofs.size.Statement.{statement}
 use Rattle.whole.proofs.size.Tie as tie
 

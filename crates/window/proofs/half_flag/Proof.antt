@@ -1,11 +1,8 @@
 -- The shift rounds down, and a mask of one bit leaves the remainder by 2. Assumes nothing.
-use mathlib.Core.Path.{refl, ap, _∙_}
+use mathlib.Core.Path.{refl}
 use lib.Dec.{lit≤}
-use lib.IntN.{ℤ, pos}
-use lib.Signed.{shrZ}
 use mir.Facts.{toZ-ofZ}
 use mir.Syntax.{w32}
-use Rattle.whole.specs.Numbers.{modZ}
 use Rattle.whole.specs.Interval.{within-32, within-shr, fits}
 use Rattle.whole.specs.Wrapping.{masked}
 use Rattle.window.proofs.half_flag.Statement.{statement}
