@@ -1,8 +1,15 @@
-/* The last motion pass of a frame-rate converter, proved. Link libhirupango.a (rt staticlib hirupango), for x86-64.
+/* The last motion pass of a frame-rate converter, proved. Link libhirupango.a (rt staticlib hirupango), for x86-64. Of the C
+ * library it needs memcpy and memset alone.
  *
  * Every function takes every number and every lent slice, ends, and touches nothing else. It answers 0 where it is done,
- * or the lowest number that applies, and then leaves every lent buffer byte for byte as it was. A pointer may be null
- * where its length is 0. */
+ * or the lowest number that applies, and then leaves every lent buffer byte for byte as it was. There is no state: nothing
+ * is kept from one call to the next, and any number of threads may call at the same time.
+ *
+ * A slice is a pointer with the number of its elements. C alone can see to these, and must:
+ *   - so many elements can be read there, and written where the pointer isn't const; of no elements the pointer may be null;
+ *   - a pointer to int32_t is aligned for one;
+ *   - a slice that is written overlaps no other slice of the call; slices that are only read may overlap each other;
+ *   - while the call lasts no other thread writes what is lent, or touches what is lent to be written. */
 #ifndef HIRUPANGO_H
 #define HIRUPANGO_H
 

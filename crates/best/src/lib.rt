@@ -1,8 +1,8 @@
 // One block's best: its vector, its SAD and its average, from its record and the planes.
-use block::Planes;
-use block::Sides;
 use choosing::Choice;
 use plane::Place;
+use planes::Planes;
+use planes::Sides;
 use records::Offset;
 use records::Record;
 use tables::Reference;

@@ -6,10 +6,11 @@ use lib.Signed.{_≤ℤ_, _<ℤ_}
 use Rattle.whole.specs.Interval.{Within}
 use Rattle.limits.specs.Limits.{shiftedBy}
 use Rattle.plane.specs.declared.Place.{Place}
-use Rattle.plane.specs.Places.{lastEnd, pel1Of, Placed}
+use Rattle.plane.specs.Places.{pel1Of, Placed}
 use Rattle.axis.specs.Bounds.{Bounded}
-use Rattle.block.specs.declared.Sides.{Sides}
-use Rattle.block.specs.declared.Planes.{Planes}
+use Rattle.planes.specs.declared.Sides.{Sides}
+use Rattle.planes.specs.declared.Planes.{Planes}
+use Rattle.planes.specs.Lying.{Lies}
 use Rattle.block.specs.declared.Settings.{Settings}
 use Rattle.block.specs.declared.Block.{Block}
 use Rattle.block.specs.declared.Shape.{Shape}
@@ -58,13 +59,6 @@ pub record Along (count step side frame place : ℤ) : Type 0 where
   pub side-most : side ≤ℤ pos 16
   pub frame-most : frame ≤ℤ pos 16384
   pub ends : ((count -ℤ pos 1) *ℤ step +ℤ side) ≤ℤ frame
-
--- of a plane: its offsets can be worked out, its rows lie in its data, and its sides are those given
-pub record Lies (p : Place) (width height : ℤ) : Type 0 where
-  pub placed : Placed p
-  pub end : lastEnd p ≤ℤ pos 1073741823
-  pub width-is : p .width ≡ width
-  pub height-is : p .height ≡ height
 
 -- of the settings and one block of the order
 pub record Ready (s : Settings) (b : Block) : Type 0 where

@@ -12,7 +12,7 @@ use Rattle.limits.specs.Limits.{shiftedBy}
 use Rattle.axis.specs.declared.Axis.{Axis}
 use Rattle.axis.specs.Axis.{excessOf, placeOf}
 use Rattle.axis.specs.Bounds.{Bounded}
-use Rattle.block.specs.declared.Sides.{Sides}
+use Rattle.planes.specs.declared.Sides.{Sides}
 use Rattle.block.specs.declared.Shape.{Shape}
 use Rattle.block.specs.Shapes.{chromaPlace, spotOf}
 use Rattle.block.specs.Asked.{Held}

@@ -20,7 +20,8 @@ use Rattle.axis.specs.Bounds.{Bounded}
 use Rattle.block.specs.declared.Settings.{Settings}
 use Rattle.block.specs.declared.Block.{Block}
 use Rattle.block.specs.Shapes.{originOf, sideOf, axisOf, negativeOf, shapeOf, chromaPlace, spotOf}
-use Rattle.block.specs.Asked.{Addressed, Shaped, SpotHeld, Along, Lies, Ready}
+use Rattle.block.specs.Asked.{Addressed, Shaped, SpotHeld, Along, Ready}
+use Rattle.planes.specs.Lying.{Lies}
 
 -- ---- one axis: from `at` for `side` lies inside the frame
 pub record Inside (frame at side : ℤ) : Type 0 where

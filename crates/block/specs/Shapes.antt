@@ -7,7 +7,7 @@ use Rattle.limits.specs.Limits.{shiftedBy, radiusOf}
 use Rattle.records.specs.Lambda.{quarterOf, thirdOf}
 use Rattle.axis.specs.declared.Axis.{Axis}
 use Rattle.axis.specs.Axis.{excessOf, placeOf}
-use Rattle.block.specs.declared.Sides.{Sides}
+use Rattle.planes.specs.declared.Sides.{Sides}
 use Rattle.block.specs.declared.Weights.{Weights}
 use Rattle.block.specs.declared.Level.{Level}
 use Rattle.block.specs.declared.Settings.{Settings}

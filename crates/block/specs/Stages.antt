@@ -10,8 +10,8 @@ use Rattle.slots.specs.declared.Slots.{Slots}
 use Rattle.slots.specs.Slots.{activeOf, lumaInActive, chromaInActive, insideOf, oneActive}
 use Rattle.plane.specs.declared.Place.{Place}
 use Rattle.plane.specs.Places.{pel1Of}
-use Rattle.block.specs.declared.Sides.{Sides}
-use Rattle.block.specs.declared.Planes.{Planes}
+use Rattle.planes.specs.declared.Sides.{Sides}
+use Rattle.planes.specs.declared.Planes.{Planes}
 use Rattle.block.specs.declared.Settings.{Settings}
 use Rattle.block.specs.declared.Block.{Block}
 use Rattle.block.specs.declared.Shape.{Shape}

@@ -1,6 +1,8 @@
 // One block's plan: its shape, whether it is searched, which slot its samples come from, its record.
 use axis::Axis;
 use plane::Place;
+use planes::Planes;
+use planes::Sides;
 use records::Offset;
 use records::Pair;
 use records::Record;
@@ -16,19 +18,6 @@ ghost use Rattle.block.specs.Steps.{filledWith, settledAt, flagsOf, quie
 ghost use Rattle.block.specs.Asked.{Addressed, Shaped, SpotHeld, Held, Ready};
 
 // Laid out as C lays them out: a host hands settings over by value.
-#[repr(C)]
-pub struct Sides {
-    pub x: i32,
-    pub y: i32,
-}
-
-#[repr(C)]
-pub struct Planes {
-    pub luma: Place,
-    pub u: Place,
-    pub v: Place,
-}
-
 #[repr(C)]
 pub struct Search {
     pub exhaustive: bool,

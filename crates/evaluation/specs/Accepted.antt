@@ -1,5 +1,5 @@
 -- What passing the tests says: the refusals leave all that a block's best asks. Assumes nothing.
-use mathlib.Core.Path.{_≡_, refl, sym, subst}
+use mathlib.Core.Path.{_≡_, refl, _∙_}
 use mathlib.Core.Bool.{Bool, true, false, _&&_, _||_, cond}
 use mathlib.Core.List.{List}
 use Prim.Native.Nat.{ℕ, _+_, _*_, _/_, _≤_, _<_}
@@ -10,7 +10,8 @@ use lib.IntN.{ℤ, pos, negsuc, natAbs, _-ℤ_, _*ℤ_}
 use lib.ListN.{length}
 use lib.Signed.{ltZ, leZ, _≤ℤ_}
 use Prim.Native.Nat.{_%_}
-use Rattle.limits.specs.Ranges.{radius-within, shift-within, same-is}
+use Rattle.limits.specs.Sizes.{wordsPerRecord, numbersPerBest}
+use Rattle.limits.specs.Ranges.{radius-within, shift-within, same-is, lies, shifted-least}
 use Rattle.whole.specs.Numbers.{liesIn, fitsI16}
 use Rattle.whole.specs.Signed.{P, N, signed, abs-is, add-is, diff-is, times-is}
 use Rattle.whole.specs.Truth.{left-of, right-of, lies-low, lies-high, three-of, four-of, five-of, six-of}
@@ -27,23 +28,17 @@ use Rattle.plane.specs.Places.{limitsHold, keepsLength, Placed}
 use Rattle.plane.specs.Offsets.{accepted-placed}
 use Rattle.choosing.specs.Choosing.{countOf}
 use Rattle.choosing.specs.Bounds.{Ranged, Narrow}
-use Rattle.block.specs.declared.Sides.{Sides}
+use Rattle.planes.specs.declared.Sides.{Sides}
 use Rattle.best.specs.declared.Task.{Task}
 use Rattle.best.specs.Best.{choiceOf}
 use Rattle.best.specs.Fair.{Fair, Comparable}
 use Rattle.record_slice.specs.RecordSlice.{recordAt, anyWide}
-use Rattle.planning.specs.Refusals.{chromaHolds, planesHold, holds3}
-use Rattle.planning.specs.Accepted.{shifted-least}
+use Rattle.planes.specs.Planes.{planesHold, holds3}
+use Rattle.planes.specs.Lying.{Lies, lying, three-lie}
 use Rattle.evaluation.specs.declared.Request.{Request}
 use Rattle.evaluation.specs.Refusals.{holds1, referenceHolds, referencesHold, holds2, hasRoom, refusalOf}
 use Rattle.evaluation.specs.Evaluated.{taskOf}
 use Rattle.evaluation.specs.Asked.{Searched, FairAll}
-
-lies : (least greatest z : ℤ) → liesIn least greatest z ≡ true → (least ≤ℤ z) × (z ≤ℤ greatest)
-lies least greatest z e =
-    let low = lies-low least greatest z e in
-    let high = lies-high least greatest z e in
-    (omega signed, omega signed)
 
 -- ---- a window that refusal 7 lets through
 record Parts (p : Pair) : Type 0 where
@@ -110,38 +105,15 @@ narrowed task radius r w e b =
     record { across = λ h k. both h k .0; down = λ h k. both h k .1 }
 
 -- ---- the planes
-placed-of : (p : Place) (n : ℕ) {width height : ℤ} → limitsHold p ≡ true → keepsLength p n ≡ true → p .width ≡ width → p .height ≡ height →
-    pos 1 ≤ℤ width → pos 1 ≤ℤ height → height ≤ℤ pos 16384 → Placed p
-placed-of p n {width} {height} limits kept w h wide tall low =
-    accepted-placed p n limits kept (subst (λ (z : ℤ). pos 1 ≤ℤ z) (sym w) wide) (subst (λ (z : ℤ). pos 1 ≤ℤ z) (sym h) tall)
-    (subst (λ (z : ℤ). z ≤ℤ pos 16384) (sym h) low)
-
--- a plane's two sides lie where luma's or chroma's do
-record Sized (p : Place) : Type 0 where
-  wide : pos 1 ≤ℤ p .width
-  tall : pos 1 ≤ℤ p .height
-  low : p .height ≤ℤ pos 16384
-
-chroma-sized : (luma : Place) (shift : Sides) (p : Place) → pos 2 ≤ℤ luma .width → luma .width ≤ℤ pos 16384 → pos 2 ≤ℤ luma .height →
-    luma .height ≤ℤ pos 16384 → chromaHolds luma shift p ≡ true → Sized p
-unfolding chromaHolds
-chroma-sized luma shift p a b c d e =
-    let cw = shiftedBy (luma .width) (shift .x) in
-    let ch = shiftedBy (luma .height) (shift .y) in
-    let w = shifted-least (luma .width) (shift .x) a b in
-    let h = shifted-least (luma .height) (shift .y) c d in
-    let width-is = same-is cw (p .width) (left-of (same cw (p .width)) (same ch (p .height)) e) in
-    let height-is = same-is ch (p .height) (right-of (same cw (p .width)) (same ch (p .height)) e) in
-    record { wide = rw width-is (w .0); tall = rw height-is (h .0); low = rw height-is (h .1) }
-
-reference-placed : (pel : ℤ) (source reference : Place) (n : ℕ) → Sized source → referenceHolds pel source reference ≡ true → keepsLength reference n ≡ true →
-    Placed reference
+-- a reference plane lies as the source's does
+reference-placed : (pel : ℤ) (source reference : Place) (n : ℕ) {width height : ℤ} → Lies source width height → referenceHolds pel source reference ≡ true →
+    keepsLength reference n ≡ true → Placed reference
 unfolding referenceHolds
 reference-placed pel source reference n s e kept =
     let t = four-of (limitsHold reference) (same (source .width) (reference .width)) (same (source .height) (reference .height))
     (same pel (reference .pel)) e in
-    placed-of reference n (t .0) kept (same-is (source .width) (reference .width) (t .1)) (same-is (source .height) (reference .height) (t .2)) (s .wide)
-    (s .tall) (s .low)
+    lying reference n (t .0) kept (same-is (source .width) (reference .width) (t .1) ∙ s .width-is)
+    (same-is (source .height) (reference .height) (t .2) ∙ s .height-is) (s .wide) (s .tall) (s .low) .placed
 
 pub searched : (q : Request) → holds1 q ≡ true → Searched q
 unfolding holds1
@@ -158,33 +130,24 @@ block-of q e = left-of (isBlock (q .block .x) (q .block .y)) (liesIn (negsuc 2) 
 pub fair : (q : Request) (r : Record) (luma u v referenceLuma referenceU referenceV : ℕ) → holds1 q ≡ true → holds2 q ≡ true →
     holds3 (q .source) luma u v ≡ true → holds3 (q .reference) referenceLuma referenceU referenceV ≡ true →
     pairsFit r ≡ true → isWide (radiusOf (q .«search_param»)) r ≡ false → Fair (taskOf q) r
-unfolding holds1 holds2 holds3 planesHold referencesHold
+unfolding holds1 holds2 holds3 referencesHold
 fair q r luma u v referenceLuma referenceU referenceV e₁ e₂ e₃ e₄ pairs wide =
     let s = q .source in
     let g = q .reference in
     let t = six-of (isPel (q .pel)) (areShifts (q .shift .x) (q .shift .y)) (isFrameSide (s .luma .width)) (isFrameSide (s .luma .height))
     (planesHold s (q .shift)) (referencesHold (q .pel) s g) e₂ in
-    let p = five-of (limitsHold (s .luma)) (limitsHold (s .u)) (limitsHold (s .v)) (chromaHolds (s .luma) (q .shift) (s .u))
-    (chromaHolds (s .luma) (q .shift) (s .v)) (t .4) in
     let m = three-of (referenceHolds (q .pel) (s .luma) (g .luma)) (referenceHolds (q .pel) (s .u) (g .u)) (referenceHolds (q .pel) (s .v) (g .v)) (t .5) in
-    let k = three-of (keepsLength (s .luma) luma) (keepsLength (s .u) u) (keepsLength (s .v) v) e₃ in
     let l = three-of (keepsLength (g .luma) referenceLuma) (keepsLength (g .u) referenceU) (keepsLength (g .v) referenceV) e₄ in
-    let w = lies (pos 2) (pos 16384) (s .luma .width) (t .2) in
-    let h = lies (pos 2) (pos 16384) (s .luma .height) (t .3) in
-    let wide-least = w .0 in
-    let tall-least = h .0 in
-    let own : Sized (s .luma) = record { wide = omega signed; tall = omega signed; low = h .1 } in
-    let own-u = chroma-sized (s .luma) (q .shift) (s .u) (w .0) (w .1) (h .0) (h .1) (p .3) in
-    let own-v = chroma-sized (s .luma) (q .shift) (s .v) (w .0) (w .1) (h .0) (h .1) (p .4) in
+    let own = three-lie s (q .shift) luma u v (t .2) (t .3) (t .4) e₃ in
     record {
       block-in = block-of q e₁;
       shift-in = shift-within (q .shift .x) (q .shift .y) (t .1);
-      source-luma = accepted-placed (s .luma) luma (p .0) (k .0) (own .wide) (own .tall) (own .low);
-      source-u = accepted-placed (s .u) u (p .1) (k .1) (own-u .wide) (own-u .tall) (own-u .low);
-      source-v = accepted-placed (s .v) v (p .2) (k .2) (own-v .wide) (own-v .tall) (own-v .low);
-      reference-luma = reference-placed (q .pel) (s .luma) (g .luma) referenceLuma own (m .0) (l .0);
-      reference-u = reference-placed (q .pel) (s .u) (g .u) referenceU own-u (m .1) (l .1);
-      reference-v = reference-placed (q .pel) (s .v) (g .v) referenceV own-v (m .2) (l .2);
+      source-luma = own .luma .placed;
+      source-u = own .u .placed;
+      source-v = own .v .placed;
+      reference-luma = reference-placed (q .pel) (s .luma) (g .luma) referenceLuma (own .luma) (m .0) (l .0);
+      reference-u = reference-placed (q .pel) (s .u) (g .u) referenceU (own .u) (m .1) (l .1);
+      reference-v = reference-placed (q .pel) (s .v) (g .v) referenceV (own .v) (m .2) (l .2);
       pairs = pairs;
       served = λ b. record {
         ranged = ranged (taskOf q) r pairs;
@@ -196,14 +159,14 @@ fair q r luma u v referenceLuma referenceU referenceV e₁ e₂ e₃ e₄ pairs 
 -- ---- the chain: 0 where every test holds
 pub record Accepted (q : Request) (records : List ℤ) (bests : ℕ) : Type 0 where
   pub fair-all : FairAll (taskOf q) records
-  pub comparable : (i : ℕ) → i < length records / 12 → Comparable (taskOf q) (recordAt records i)
-  pub room : 4 * (length records / 12) ≤ bests
+  pub comparable : (i : ℕ) → i < length records / wordsPerRecord → Comparable (taskOf q) (recordAt records i)
+  pub room : numbersPerBest * (length records / wordsPerRecord) ≤ bests
 
 pub accepted : (q : Request) (records : List ℤ) (luma u v referenceLuma referenceU referenceV bests : ℕ) →
     refusalOf q records luma u v referenceLuma referenceU referenceV bests ≡ 0 → Accepted q records bests
 unfolding refusalOf
 accepted q records luma u v referenceLuma referenceU referenceV bests e =
-    let n = length records / 12 in
+    let n = length records / wordsPerRecord in
     let own = holds3 (q .source) luma u v in
     let other = holds3 (q .reference) referenceLuma referenceU referenceV in
     let t₁ = let-through (holds1 q) 0 _ e in
@@ -222,5 +185,5 @@ accepted q records luma u v referenceLuma referenceU referenceV bests e =
         block-in = block-of q (t₁ .0);
         narrow = narrowed (taskOf q) (radiusOf (q .«search_param»)) (recordAt records i) (radius-within (searched q (t₁ .0) .search)) (each i l);
       };
-      room = leb-true (4 * n) bests (right-of (eqb (length records % 12) 0) (leb (4 * n) bests) (t₅ .0));
+      room = leb-true (numbersPerBest * n) bests (right-of (eqb (length records % wordsPerRecord) 0) (leb (numbersPerBest * n) bests) (t₅ .0));
     }

@@ -5,6 +5,7 @@ use lib.IntN.{ℤ}
 use lib.ListN.{length}
 use mathlib.Core.Path.{_≡_}
 use mathlib.Core.Bool.{true}
+use Rattle.limits.specs.Sizes.{wordsPerRecord}
 use Rattle.whole.specs.Interval.{Within}
 use Rattle.records.specs.Packing.{pairsFit}
 use Rattle.best.specs.declared.Task.{Task}
@@ -17,4 +18,4 @@ pub record Searched (q : Request) : Type 0 where
 
 -- every record can be evaluated. That its pairs fit is told by reading it.
 abbrev pub FairAll : Task → List ℤ → Type 0
-FairAll task records = (i : ℕ) → i < length records / 12 → pairsFit (recordAt records i) ≡ true → Fair task (recordAt records i)
+FairAll task records = (i : ℕ) → i < length records / wordsPerRecord → pairsFit (recordAt records i) ≡ true → Fair task (recordAt records i)

@@ -7,7 +7,8 @@ use native.Mathlib.Omega.{arith}
 use lib.IntN.{ℤ}
 use lib.ListN.{length, drop, length-append, length-drop}
 use lib.Seq.{paste}
-use Rattle.passes.specs.FoldLaws.{paste-next}
+use Rattle.limits.specs.Sizes.{numbersPerBest}
+use Rattle.whole.specs.Lists.{paste-next}
 use Rattle.best.specs.declared.Task.{Task}
 use Rattle.best.specs.declared.Best.{Best}
 use Rattle.evaluation.specs.Evaluated.{bestList, bestAt, bestsUpto}
@@ -16,25 +17,26 @@ module _ (task : Task) (records : List ℤ) (luma u v referenceLuma referenceU r
   abbrev upto : ℕ → List ℤ
   upto = bestsUpto task records luma u v referenceLuma referenceU referenceV
 
-  pub bests-long : (i : ℕ) → length (upto i) ≡ 4 * i
+  pub bests-long : (i : ℕ) → length (upto i) ≡ numbersPerBest * i
   unfolding bestsUpto
   bests-long zero = refl
   bests-long (suc i) = length-append (upto i) (bestList (bestAt task records luma u v referenceLuma referenceU referenceV i)) ∙ omega (arith, bests-long i)
 
   -- after i records: their bests stand in front of the old tail
   abbrev pub Written : ℕ → List ℤ → List ℤ → Type 0
-  Written i old bests = bests ≡ upto i ++ drop (4 * i) old
+  Written i old bests = bests ≡ upto i ++ drop (numbersPerBest * i) old
 
-  pub written-long : (i : ℕ) (old : List ℤ) {bests : List ℤ} → Written i old bests → 4 * i ≤ length old → length bests ≡ length old
-  written-long i old e l = ap length e ∙ length-append (upto i) (drop (4 * i) old) ∙ omega (arith, bests-long i, length-drop (4 * i) old)
+  pub written-long : (i : ℕ) (old : List ℤ) {bests : List ℤ} → Written i old bests → numbersPerBest * i ≤ length old → length bests ≡ length old
+  written-long i old e l =
+      ap length e ∙ length-append (upto i) (drop (numbersPerBest * i) old) ∙ omega (arith, bests-long i, length-drop (numbersPerBest * i) old)
 
   pub written-next : (i : ℕ) (old : List ℤ) {bests : List ℤ} {best : Best} → Written i old bests →
       best ≡ bestAt task records luma u v referenceLuma referenceU referenceV i →
-      Written (i + 1) old (paste bests (4 * i) (bestList best) 4)
+      Written (i + 1) old (paste bests (numbersPerBest * i) (bestList best) numbersPerBest)
   unfolding bestsUpto
   written-next i old {bests} {best} e f =
-      let m : 4 * (i + 1) ≡ 4 * i + 4 = omega arith in
+      let m : numbersPerBest * (i + 1) ≡ numbersPerBest * i + numbersPerBest = omega arith in
       rw (m, add-one)
-      (ap (λ (l : List ℤ). paste l (4 * i) (bestList best) 4) e
-      ∙ paste-next (upto i) (bestList best) old (4 * i) 4 (bests-long i) refl
-      ∙ ap (λ (b : Best). (upto i ++ bestList b) ++ drop (4 * i + 4) old) f)
+      (ap (λ (l : List ℤ). paste l (numbersPerBest * i) (bestList best) numbersPerBest) e
+      ∙ paste-next (upto i) (bestList best) old (numbersPerBest * i) numbersPerBest (bests-long i) refl
+      ∙ ap (λ (b : Best). (upto i ++ bestList b) ++ drop (numbersPerBest * i + numbersPerBest) old) f)

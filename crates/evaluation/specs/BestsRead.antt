@@ -7,6 +7,7 @@ use native.Mathlib.Omega.{arith}
 use lib.IntN.{ℤ, pos}
 use lib.ListN.{getD, length}
 use lib.Seq.{getD-append-add}
+use Rattle.limits.specs.Sizes.{numbersPerBest}
 use Rattle.whole.specs.Signed.{lt-or-ge}
 use Rattle.best.specs.declared.Task.{Task}
 use Rattle.best.specs.declared.Best.{Best}
@@ -19,19 +20,19 @@ behind front back n k e = ap (λ (m : ℕ). getD (front ++ back) (m + k) (pos 0)
 
 -- ---- bests: four numbers each
 pub record Reads (bests : List ℤ) (i : ℕ) (b : Best) : Type 0 where
-  pub x : getD bests (4 * i) (pos 0) ≡ b .x
-  pub y : getD bests (4 * i + 1) (pos 0) ≡ b .y
-  pub sad : getD bests (4 * i + 2) (pos 0) ≡ b .sad
-  pub average : getD bests (4 * i + 3) (pos 0) ≡ b .average
+  pub x : getD bests (numbersPerBest * i) (pos 0) ≡ b .x
+  pub y : getD bests (numbersPerBest * i + 1) (pos 0) ≡ b .y
+  pub sad : getD bests (numbersPerBest * i + 2) (pos 0) ≡ b .sad
+  pub average : getD bests (numbersPerBest * i + 3) (pos 0) ≡ b .average
 
-last-reads : (front tail : List ℤ) (i : ℕ) (b : Best) → length front ≡ 4 * i → Reads (front ++ (bestList b ++ tail)) i b
+last-reads : (front tail : List ℤ) (i : ℕ) (b : Best) → length front ≡ numbersPerBest * i → Reads (front ++ (bestList b ++ tail)) i b
 last-reads front tail i b e =
-    let first : 4 * i ≡ 4 * i + 0 = omega arith in
+    let first : numbersPerBest * i ≡ numbersPerBest * i + 0 = omega arith in
     record {
-      x = ap (λ (m : ℕ). getD (front ++ (bestList b ++ tail)) m (pos 0)) first ∙ behind front (bestList b ++ tail) (4 * i) 0 e;
-      y = behind front (bestList b ++ tail) (4 * i) 1 e;
-      sad = behind front (bestList b ++ tail) (4 * i) 2 e;
-      average = behind front (bestList b ++ tail) (4 * i) 3 e;
+      x = ap (λ (m : ℕ). getD (front ++ (bestList b ++ tail)) m (pos 0)) first ∙ behind front (bestList b ++ tail) (numbersPerBest * i) 0 e;
+      y = behind front (bestList b ++ tail) (numbersPerBest * i) 1 e;
+      sad = behind front (bestList b ++ tail) (numbersPerBest * i) 2 e;
+      average = behind front (bestList b ++ tail) (numbersPerBest * i) 3 e;
     }
 
 module _ (task : Task) (records : List ℤ) (luma u v referenceLuma referenceU referenceV : List ℕ) where

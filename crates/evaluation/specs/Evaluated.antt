@@ -3,6 +3,7 @@ use mathlib.Core.List.{List, [], _∷_, _++_}
 use Prim.Native.Nat.{ℕ, zero, suc, _*_, _/_}
 use lib.IntN.{ℤ}
 use lib.ListN.{length, drop}
+use Rattle.limits.specs.Sizes.{wordsPerRecord, numbersPerBest}
 use Rattle.limits.specs.Refusals.{kept}
 use Rattle.best.specs.declared.Task.{Task}
 use Rattle.best.specs.declared.Best.{Best}
@@ -37,5 +38,7 @@ module _ (q : Request) (records : List ℤ) (luma u v referenceLuma referenceU r
   unfoldable pub evaluateBests : List ℤ → List ℤ
   unfolding evaluateAnswer
   evaluateBests bests =
-      let n = length records / 12 in
-      kept (evaluateAnswer (length bests)) (bestsUpto (taskOf q) records luma u v referenceLuma referenceU referenceV n ++ drop (4 * n) bests) bests
+      let n = length records / wordsPerRecord in
+      kept (evaluateAnswer (length bests))
+      (bestsUpto (taskOf q) records luma u v referenceLuma referenceU referenceV n ++ drop (numbersPerBest * n) bests)
+      bests

@@ -6,13 +6,14 @@ use lib.Dec.{eqb, leb}
 use lib.IntN.{ℤ, pos, negsuc}
 use lib.ListN.{length}
 use Rattle.whole.specs.Numbers.{liesIn}
+use Rattle.limits.specs.Sizes.{wordsPerRecord, numbersPerBest}
 use Rattle.limits.specs.Limits.{same, isBlock, isFrameSide, isPel, areShifts, radiusOf}
 use Rattle.limits.specs.Refusals.{first}
 use Rattle.plane.specs.declared.Place.{Place}
 use Rattle.plane.specs.Places.{limitsHold}
-use Rattle.block.specs.declared.Planes.{Planes}
+use Rattle.planes.specs.declared.Planes.{Planes}
 use Rattle.record_slice.specs.RecordSlice.{anyWide}
-use Rattle.planning.specs.Refusals.{planesHold, holds3}
+use Rattle.planes.specs.Planes.{planesHold, holds3}
 use Rattle.evaluation.specs.declared.Request.{Request}
 
 -- ---- "1: .. another block size, .. or radius over 3"
@@ -40,7 +41,7 @@ holds2 q =
 
 -- ---- "5: a lent output is too short, or .. (evaluation has no indices: not a multiple of 12 words)"
 abbrev pub hasRoom : ℕ → ℕ → Bool
-hasRoom words bests = eqb (words % 12) 0 && leb (4 * (words / 12)) bests
+hasRoom words bests = eqb (words % wordsPerRecord) 0 && leb (numbersPerBest * (words / wordsPerRecord)) bests
 
 -- ---- "7: a BAD record's window has both sides non-empty and one over 2 x radius + 1": asked of all records. "Radius is the absolute value of `search_param`."
 -- ---- "If several apply, the lowest is given". 3: "a plane breaks its length rule", the reference's too
@@ -50,4 +51,4 @@ refusalOf q records luma u v referenceLuma referenceU referenceV bests =
     (first (not (holds2 q)) 2
     (first (not (holds3 (q .source) luma u v && holds3 (q .reference) referenceLuma referenceU referenceV)) 3
     (first (not (hasRoom (length records) bests)) 5
-    (first (anyWide (radiusOf (q .«search_param»)) records (length records / 12)) 7 0))))
+    (first (anyWide (radiusOf (q .«search_param»)) records (length records / wordsPerRecord)) 7 0))))

@@ -6,10 +6,11 @@ use Prim.Native.Nat.{ℕ, _/_}
 use lib.Dec.{eqb}
 use lib.IntN.{ℤ}
 use lib.ListN.{length}
+use Rattle.limits.specs.Sizes.{wordsPerRecord}
 use Rattle.limits.specs.Limits.{radiusOf}
 use Rattle.limits.specs.Refusals.{first}
 use Rattle.record_slice.specs.RecordSlice.{anyWide}
-use Rattle.planning.specs.Refusals.{holds3}
+use Rattle.planes.specs.Planes.{holds3}
 use Rattle.evaluation.specs.declared.Request.{Request}
 use Rattle.evaluation.specs.Refusals.{holds1, holds2, hasRoom, refusalOf}
 
@@ -32,9 +33,9 @@ exactly false false false false false = record { is-1 = refl; is-2 = refl; is-3 
 
 pub given-exactly : (q : Request) (records : List ℤ) (luma u v referenceLuma referenceU referenceV bests : ℕ) →
     Exactly (not (holds1 q)) (not (holds2 q)) (not (holds3 (q .source) luma u v && holds3 (q .reference) referenceLuma referenceU referenceV))
-    (not (hasRoom (length records) bests)) (anyWide (radiusOf (q .«search_param»)) records (length records / 12))
+    (not (hasRoom (length records) bests)) (anyWide (radiusOf (q .«search_param»)) records (length records / wordsPerRecord))
     (refusalOf q records luma u v referenceLuma referenceU referenceV bests)
 unfolding refusalOf
 given-exactly q records luma u v referenceLuma referenceU referenceV bests =
     exactly (not (holds1 q)) (not (holds2 q)) (not (holds3 (q .source) luma u v && holds3 (q .reference) referenceLuma referenceU referenceV))
-    (not (hasRoom (length records) bests)) (anyWide (radiusOf (q .«search_param»)) records (length records / 12))
+    (not (hasRoom (length records) bests)) (anyWide (radiusOf (q .«search_param»)) records (length records / wordsPerRecord))

@@ -9,6 +9,7 @@ use Prim.Native.Nat.{ℕ, _+_, _*_, _/_, _<_}
 use lib.IntN.{ℤ, pos}
 use lib.ListN.{length, getD, drop}
 use Rattle.whole.specs.Numbers.{liesIn}
+use Rattle.limits.specs.Sizes.{wordsPerRecord, numbersPerBest}
 use Rattle.limits.specs.Refused.{kept-done}
 use Rattle.window.specs.Windows.{isBad}
 use Rattle.record_slice.specs.RecordSlice.{recordAt}
@@ -23,9 +24,10 @@ use Rattle.evaluation.specs.BestsRead.{Reads, best-reads}
 -- ---- what is said of the buffer `bests`, four numbers a record: x, y, SAD, average
 abbrev pub ZeroLaw : Request → List ℤ → List ℕ → List ℕ → List ℕ → List ℕ → List ℕ → List ℕ → List ℤ → Type 0
 ZeroLaw q records luma u v referenceLuma referenceU referenceV bests =
-    (i : ℕ) → i < length records / 12 → isBad (recordAt records i) ≡ true → (q .pel ≡ pos 2) ⊎ (q .pel ≡ pos 4) →
-    (getD bests (4 * i + 2) (pos 0) ≡ pos 0)
-    ↔ AgreeAt (taskOf q) (recordAt records i) luma u v referenceLuma referenceU referenceV (getD bests (4 * i) (pos 0)) (getD bests (4 * i + 1) (pos 0))
+    (i : ℕ) → i < length records / wordsPerRecord → isBad (recordAt records i) ≡ true → (q .pel ≡ pos 2) ⊎ (q .pel ≡ pos 4) →
+    (getD bests (numbersPerBest * i + 2) (pos 0) ≡ pos 0)
+    ↔ AgreeAt (taskOf q) (recordAt records i) luma u v referenceLuma referenceU referenceV
+    (getD bests (numbersPerBest * i) (pos 0)) (getD bests (numbersPerBest * i + 1) (pos 0))
 
 abbrev pub Bytes : List ℕ → Type 0
 Bytes samples = (n : ℕ) → getD samples n 0 < 256
@@ -43,7 +45,7 @@ module _ (q : Request) (records : List ℤ) (luma u v referenceLuma referenceU r
   unfolding evaluateAnswer
   taken = accepted q records (length luma) (length u) (length v) (length referenceLuma) (length referenceU) (length referenceV) (length bests) done
 
-  module _ (i : ℕ) (there : i < length records / 12) where
+  module _ (i : ℕ) (there : i < length records / wordsPerRecord) where
     abbrev best : Best
     best = bestAt (taskOf q) records luma u v referenceLuma referenceU referenceV i
 
@@ -51,17 +53,18 @@ module _ (q : Request) (records : List ℤ) (luma u v referenceLuma referenceU r
     unfolding evaluateBests
     reads =
         subst (λ (l : List ℤ). Reads l i best) (sym (kept-done _ _ bests done))
-        (best-reads (taskOf q) records luma u v referenceLuma referenceU referenceV (length records / 12) i (drop (4 * (length records / 12)) bests) there)
+        (best-reads (taskOf q) records luma u v referenceLuma referenceU referenceV (length records / wordsPerRecord) i
+        (drop (numbersPerBest * (length records / wordsPerRecord)) bests) there)
 
     -- all samples compared at a vector agree
     abbrev Alike : ℤ → ℤ → Type 0
     Alike x y = AgreeAt (taskOf q) (recordAt records i) luma u v referenceLuma referenceU referenceV x y
 
     -- at the vector in the buffer as at the best's own
-    to-buffer : Alike (best .x) (best .y) → Alike (getD after (4 * i) (pos 0)) (getD after (4 * i + 1) (pos 0))
+    to-buffer : Alike (best .x) (best .y) → Alike (getD after (numbersPerBest * i) (pos 0)) (getD after (numbersPerBest * i + 1) (pos 0))
     to-buffer a = rw (reads .x, reads .y) a
 
-    to-best : Alike (getD after (4 * i) (pos 0)) (getD after (4 * i + 1) (pos 0)) → Alike (best .x) (best .y)
+    to-best : Alike (getD after (numbersPerBest * i) (pos 0)) (getD after (numbersPerBest * i + 1) (pos 0)) → Alike (best .x) (best .y)
     to-best a = rw (reads .x, reads .y) at a
 
     module _ (bad : isBad (recordAt records i) ≡ true) (pel : (q .pel ≡ pos 2) ⊎ (q .pel ≡ pos 4)) (bytes : Bytes luma)
@@ -69,12 +72,14 @@ module _ (q : Request) (records : List ℤ) (luma u v referenceLuma referenceU r
       known : Comparable (taskOf q) (recordAt records i)
       known = taken .comparable i there
 
-      only-there : getD after (4 * i + 2) (pos 0) ≡ pos 0 → Alike (getD after (4 * i) (pos 0)) (getD after (4 * i + 1) (pos 0))
+      only-there : getD after (numbersPerBest * i + 2) (pos 0) ≡ pos 0 →
+          Alike (getD after (numbersPerBest * i) (pos 0)) (getD after (numbersPerBest * i + 1) (pos 0))
       only-there e =
           to-buffer (zero-only (taskOf q) (recordAt records i) luma u v referenceLuma referenceU referenceV known bad
           (not-1 (q .pel) pel) bytes reference-bytes (sym (reads .sad) ∙ e))
 
-      where-all-agree : Alike (getD after (4 * i) (pos 0)) (getD after (4 * i + 1) (pos 0)) → getD after (4 * i + 2) (pos 0) ≡ pos 0
+      where-all-agree : Alike (getD after (numbersPerBest * i) (pos 0)) (getD after (numbersPerBest * i + 1) (pos 0)) →
+          getD after (numbersPerBest * i + 2) (pos 0) ≡ pos 0
       where-all-agree a =
           reads .sad ∙ zero-where-agreed (taskOf q) (recordAt records i) luma u v referenceLuma referenceU referenceV known bad (not-1 (q .pel) pel) (to-best a)
 

@@ -1,14 +1,15 @@
 // Evaluating: the refusals in the table's order, and then the best of every record.
 use best::Best;
 use best::Task;
-use block::Planes;
-use block::Sides;
 use plane::Place;
+use planes::Planes;
+use planes::Sides;
 ghost use mathlib.Core.Path.{_≡_};
 ghost use mathlib.Core.List.{_++_};
 ghost use Prim.Native.Nat.{_+_, _*_, _/_, _≤_};
 ghost use lib.ListN.{length, drop};
 ghost use lib.Seq.{paste};
+ghost use Rattle.limits.specs.Sizes.{wordsPerRecord, numbersPerBest};
 ghost use Rattle.limits.specs.Limits.{radiusOf};
 ghost use Rattle.evaluation.specs.Refusals.{holds1, referenceHolds, referencesHold, holds2, hasRoom, refusalOf};
 ghost use Rattle.evaluation.specs.Evaluated.{taskOf, bestList, bestsUpto, evaluateAnswer, evaluateBests};
@@ -105,23 +106,24 @@ fn holds_2(request: Request) -> bool
         & limits::are_shifts(x, y)
         & limits::is_frame_side(width)
         & limits::is_frame_side(height)
-        & planning::planes_hold(source, shift)
+        & planes::planes_hold(source, shift)
         & references_hold(pel, source, reference)
 }
 
 fn has_room(words: usize, bests: usize) -> bool
     ensures { λ r. ⌜ r ≡ hasRoom words bests ⌝ }
 {
-    (words % 12 == 0) & (4 * (words / 12) <= bests)
+    (words % limits::WORDS_PER_RECORD == 0)
+        & (limits::NUMBERS_PER_BEST * (words / limits::WORDS_PER_RECORD) <= bests)
 }
 
 fn any_too_wide(request: Request, records: &[i32]) -> bool
     requires { ⌜ Searched request ⌝ }
-    ensures { λ r. ⌜ r ≡ anyWide (radiusOf (request .«search_param»)) (now (records .entry)) (length (now (records .entry)) / 12) ⌝ }
+    ensures { λ r. ⌜ r ≡ anyWide (radiusOf (request .«search_param»)) (now (records .entry)) (length (now (records .entry)) / wordsPerRecord) ⌝ }
 {
     let search_param = request.search_param;
     let radius = limits::radius_of(search_param);
-    record_slice::any_wide(records, radius, records.len() / 12)
+    record_slice::any_wide(records, radius, records.len() / limits::WORDS_PER_RECORD)
 }
 
 // The lowest number that applies, or 0. Each test may lean on those before it.
@@ -146,10 +148,10 @@ fn refusal(
     if !holds_2(request) {
         return 2;
     }
-    if !planning::holds_3(source, luma, u, v) {
+    if !planes::holds_3(source, luma, u, v) {
         return 3;
     }
-    if !planning::holds_3(reference, reference_luma, reference_u, reference_v) {
+    if !planes::holds_3(reference, reference_luma, reference_u, reference_v) {
         return 3;
     }
     if !has_room(records.len(), bests) {
@@ -163,8 +165,8 @@ fn refusal(
 
 // ---- writing
 fn put(bests: &mut [i32], at: usize, best: Best)
-    requires { ⌜ at + 4 ≤ length (now bests) ⌝ }
-    ensures { λ _. ⌜ now (bests .exit) ≡ paste (now (bests .entry)) at (bestList best) 4 ⌝ }
+    requires { ⌜ at + numbersPerBest ≤ length (now bests) ⌝ }
+    ensures { λ _. ⌜ now (bests .exit) ≡ paste (now (bests .entry)) at (bestList best) numbersPerBest ⌝ }
 {
     let x = best.x;
     let y = best.y;
@@ -188,10 +190,10 @@ fn write_all(
     bests: &mut [i32],
 )
     requires { ⌜ FairAll task (now records) ⌝ }
-    requires { ⌜ 4 * (length (now records) / 12) ≤ length (now bests) ⌝ }
-    ensures { λ _. ⌜ now (bests .exit) ≡ bestsUpto task (now (records .entry)) (now (luma .entry)) (now (u .entry)) (now (v .entry)) (now («reference_luma» .entry)) (now («reference_u» .entry)) (now («reference_v» .entry)) (length (now (records .entry)) / 12) ++ drop (4 * (length (now (records .entry)) / 12)) (now (bests .entry)) ⌝ }
+    requires { ⌜ numbersPerBest * (length (now records) / wordsPerRecord) ≤ length (now bests) ⌝ }
+    ensures { λ _. ⌜ now (bests .exit) ≡ bestsUpto task (now (records .entry)) (now (luma .entry)) (now (u .entry)) (now (v .entry)) (now («reference_luma» .entry)) (now («reference_u» .entry)) (now («reference_v» .entry)) (length (now (records .entry)) / wordsPerRecord) ++ drop (numbersPerBest * (length (now (records .entry)) / wordsPerRecord)) (now (bests .entry)) ⌝ }
 {
-    let n = records.len() / 12;
+    let n = records.len() / limits::WORDS_PER_RECORD;
     let mut i: usize = 0;
     while i < n {
         let given = record_slice::record_at(records, i);
@@ -205,7 +207,7 @@ fn write_all(
             reference_u,
             reference_v,
         );
-        put(bests, 4 * i, best);
+        put(bests, limits::NUMBERS_PER_BEST * i, best);
         i += 1;
     }
 }

@@ -6,6 +6,7 @@ use Prim.Native.Nat.{ℕ, _+_, _*_, _≤_, _<_}
 use lib.IntN.{ℤ, pos}
 use lib.ListN.{length}
 use lib.Signed.{ltZ}
+use Rattle.limits.specs.Sizes.{numbersPerBest}
 use Rattle.whole.specs.Interval.{Within}
 use Rattle.score.specs.Score.{scoreFits}
 use Rattle.finishing.specs.Finish.{indexAt, blockAt, xAt, yAt}
@@ -17,7 +18,7 @@ pub record Grid (nx ny : ℤ) : Type 0 where
 
 -- entries that can be written into a buffer which has so many numbers for each block
 pub record Placed (each : ℕ) (buffer indices bests : List ℤ) : Type 0 where
-  pub four-each : length bests ≡ 4 * length indices
+  pub four-each : length bests ≡ numbersPerBest * length indices
   pub above : (n : ℕ) → n < length indices → ltZ (indexAt indices n) (pos 0) ≡ false
   pub below : (n : ℕ) → n < length indices → each * blockAt indices n + each ≤ length buffer
 

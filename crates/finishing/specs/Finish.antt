@@ -7,6 +7,7 @@ use lib.Dec.{eqb, ltb}
 use lib.IntN.{ℤ, pos, natAbs}
 use lib.ListN.{length, getD, set}
 use lib.Signed.{ltZ, leZ}
+use Rattle.limits.specs.Sizes.{numbersPerBest}
 use Rattle.limits.specs.Limits.{blocksOf}
 use Rattle.whole.specs.Numbers.{fitsI16}
 use Rattle.limits.specs.Refusals.{first, anyUpto, kept}
@@ -17,16 +18,16 @@ abbrev pub indexAt : List ℤ → ℕ → ℤ
 indexAt indices n = getD indices n (pos 0)
 
 abbrev pub xAt : List ℤ → ℕ → ℤ
-xAt bests n = getD bests (4 * n) (pos 0)
+xAt bests n = getD bests (numbersPerBest * n) (pos 0)
 
 abbrev pub yAt : List ℤ → ℕ → ℤ
-yAt bests n = getD bests (4 * n + 1) (pos 0)
+yAt bests n = getD bests (numbersPerBest * n + 1) (pos 0)
 
 abbrev pub sadAt : List ℤ → ℕ → ℤ
-sadAt bests n = getD bests (4 * n + 2) (pos 0)
+sadAt bests n = getD bests (numbersPerBest * n + 2) (pos 0)
 
 abbrev pub averageAt : List ℤ → ℕ → ℤ
-averageAt bests n = getD bests (4 * n + 3) (pos 0)
+averageAt bests n = getD bests (numbersPerBest * n + 3) (pos 0)
 
 -- An index that is served is not below 0, so its absolute value is the index itself.
 abbrev pub blockAt : List ℤ → ℕ → ℕ
@@ -82,7 +83,7 @@ refused4 nx ny indices = anyStray (pos (blocksOf nx ny)) indices (length indices
 
 -- 5: "a lent output is too short", where it is asked for, or bests aren't "4 numbers for each index"
 abbrev pub refused5 : ℤ → ℤ → List ℤ → List ℤ → Bool → ℕ → Bool
-refused5 nx ny indices bests asked room = asked && ltb room (2 * blocksOf nx ny) || not (eqb (length bests) (4 * length indices))
+refused5 nx ny indices bests asked room = asked && ltb room (2 * blocksOf nx ny) || not (eqb (length bests) (numbersPerBest * length indices))
 
 -- 7: "a best's vector doesn't fit i16"
 abbrev pub isWild : ℤ → ℤ → Bool

@@ -13,6 +13,7 @@ use lib.Signed.{ltZ, leZ, nonNeg}
 use mir.Facts.{toZ-ofZ}
 use mir.Syntax.{w32, w64}
 use mir.Val.{SFits, Fits, toZ, ofZ}
+use Rattle.limits.specs.Sizes.{numbersPerBest}
 use Rattle.limits.specs.Limits.{blocksOf}
 use Rattle.whole.specs.Numbers.{fitsI16}
 use Rattle.whole.specs.Signed.{signed, range, abs-is}
@@ -56,7 +57,7 @@ pub record Passed (nx ny : ℤ) (indices bests : List ℤ) (diagonal : ℤ) (ask
   pub diagonal-above : ltZ (pos 0) diagonal ≡ true
   pub inside : (n : ℕ) → n < length indices → Inside (blocksOf nx ny) (indexAt indices n)
   pub room-is : asked ≡ true → 2 * blocksOf nx ny ≤ room
-  pub four-each : length bests ≡ 4 * length indices
+  pub four-each : length bests ≡ numbersPerBest * length indices
   pub tame : (n : ℕ) → n < length indices → (fitsI16 (xAt bests n) && fitsI16 (yAt bests n)) ≡ true
 
 module _ (nx ny : ℤ) (indices bests : List ℤ) (diagonal : ℤ) (asked : Bool) (held room : ℕ) where
@@ -73,14 +74,14 @@ module _ (nx ny : ℤ) (indices bests : List ℤ) (diagonal : ℤ) (asked : Bool
       let counted = eqb held (3 * blocks) in
       let numbers = neither-second (sidesOver nx ny) (not counted || leZ diagonal (pos 0)) (two .0) in
       let least = neither-second (not counted) (leZ diagonal (pos 0)) numbers in
-      let alike = eqb (length bests) (4 * entries) in
+      let alike = eqb (length bests) (numbersPerBest * entries) in
       let short = asked && ltb room (2 * blocks) in
       record {
         held-is = eqb-true held (3 * blocks) (not-false counted (neither-first (not counted) (leZ diagonal (pos 0)) numbers));
         diagonal-above = omega signed;
         inside = λ n h. inside-of blocks (indexAt indices n) (each-fails (λ k. isStray (pos blocks) (indexAt indices k)) entries n (four .0) h);
         room-is = λ t. enough blocks t (neither-first short (not alike) (five .0));
-        four-each = eqb-true (length bests) (4 * entries) (not-false alike (neither-second short (not alike) (five .0)));
+        four-each = eqb-true (length bests) (numbersPerBest * entries) (not-false alike (neither-second short (not alike) (five .0)));
         tame = λ n h. not-false (fitsI16 (xAt bests n) && fitsI16 (yAt bests n)) (each-fails (λ k. isWild (xAt bests k) (yAt bests k)) entries n (seven .0) h);
       }
     where

@@ -5,6 +5,7 @@ ghost use mathlib.Core.Path.{_≡_};
 ghost use mathlib.Core.Bool.{true};
 ghost use Prim.Native.Nat.{_+_, _*_, _≤_};
 ghost use lib.ListN.{length};
+ghost use Rattle.limits.specs.Sizes.{numbersPerBest};
 ghost use Rattle.score.specs.Score.{outputWord, packedScore, scoreFits};
 ghost use Rattle.finishing.specs.Finish.{writtenUpto, stored, storing, wordsPut, putting, refused1, sidesOver, isStray, anyStray, isWild, anyWild, finishAnswer, finishVectors, finishOutput};
 ghost use Rattle.finishing.specs.Asked.{Placed, Scored};
@@ -46,13 +47,17 @@ fn is_wild(x: i32, y: i32) -> bool
 }
 
 fn any_wild(bests: &[i32], entries: usize) -> bool
-    requires { ⌜ length (now bests) ≡ 4 * entries ⌝ }
+    requires { ⌜ length (now bests) ≡ numbersPerBest * entries ⌝ }
     ensures { λ r. ⌜ r ≡ anyWild (now (bests .entry)) entries ⌝ }
 {
     let mut wild = false;
     let mut n: usize = 0;
     while n < entries {
-        wild = wild | is_wild(bests[4 * n], bests[4 * n + 1]);
+        wild = wild
+            | is_wild(
+                bests[limits::NUMBERS_PER_BEST * n],
+                bests[limits::NUMBERS_PER_BEST * n + 1],
+            );
         n += 1;
     }
     wild
@@ -84,7 +89,9 @@ fn refusal(
     if any_stray(indices, blocks as i32) {
         return 4;
     }
-    if output_asked & (room < 2 * blocks) | (bests.len() != 4 * indices.len()) {
+    if output_asked & (room < 2 * blocks)
+        | (bests.len() != limits::NUMBERS_PER_BEST * indices.len())
+    {
         return 5;
     }
     if any_wild(bests, indices.len()) {
@@ -110,7 +117,7 @@ fn write_vectors(indices: &[i32], bests: &[i32], vectors: &mut [i32])
 {
     let mut n: usize = 0;
     while n < indices.len() {
-        let at = 4 * n;
+        let at = limits::NUMBERS_PER_BEST * n;
         store(
             vectors,
             indices[n] as usize,
@@ -161,7 +168,7 @@ fn write_output(indices: &[i32], bests: &[i32], diagonal: i32, output: &mut [i32
 {
     let mut n: usize = 0;
     while n < indices.len() {
-        let at = 4 * n;
+        let at = limits::NUMBERS_PER_BEST * n;
         put_words(
             output,
             indices[n] as usize,

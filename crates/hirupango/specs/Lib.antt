@@ -1,6 +1,1 @@
-pub mod Word
-pub mod WordLaws
-pub mod Slots
 pub mod Made
-pub mod BlockCost
-pub mod BlockCostLaws

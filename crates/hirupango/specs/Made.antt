@@ -19,7 +19,7 @@ use Rattle.planning.specs.declared.Planned.the-variants.{Done, Refused}
 use Rattle.planning.specs.Refusals.{refusalOf}
 use Rattle.planning.specs.Planned.{madeOf, answered, planNumber, planAnswer}
 use Rattle.planning.specs.Accepted.{Framed, accepted}
-use Rattle.hirupango.specs.Slots.{slotsAnswer}
+use Rattle.answer_bytes.specs.Slots.{slotsAnswer}
 
 -- ---- an answer that is done comes from the number 0
 abbrev madeBy : Made → Planned → Made

@@ -2,10 +2,7 @@
 use block::Settings;
 use evaluation::Request;
 use planning::Planned;
-use score::Answer;
 ghost use mathlib.Core.Path.{_≡_};
-ghost use mathlib.Core.Bool.{true, _&&_, _||_};
-ghost use Prim.Native.Nat.{_≤_, _<_};
 ghost use lib.ListN.{length};
 ghost use Rattle.score.specs.Score.{scoreAnswer};
 ghost use Rattle.score.specs.Diagonal.{diagonalAnswer};
@@ -13,26 +10,11 @@ ghost use Rattle.serpentine.specs.Answers.{orderRefusal, orderAfter};
 ghost use Rattle.planning.specs.Planned.{planNumber, planAnswer, planRecords, planIndices};
 ghost use Rattle.evaluation.specs.Evaluated.{evaluateAnswer, evaluateBests};
 ghost use Rattle.finishing.specs.Finish.{finishAnswer, finishVectors, finishOutput};
-ghost use Rattle.hirupango.specs.BlockCost.{isSize, numbersFit, isHeld, costNumber, costBytes};
-ghost use Rattle.hirupango.specs.Word.{wordNumber, wordBytes};
-ghost use Rattle.hirupango.specs.Slots.{slotsAnswer};
+ghost use Rattle.answer_bytes.specs.BlockCost.{costNumber, costBytes};
+ghost use Rattle.answer_bytes.specs.Word.{wordNumber, wordBytes};
+ghost use Rattle.answer_bytes.specs.Slots.{slotsAnswer};
 
-// ---- numbers
-// What an entry answered, as four bytes. It refuses with the number given here.
-fn give(refused: u32, answer: Answer, out: &mut [u8]) -> u32
-    ensures number { λ r. ⌜ r ≡ wordNumber refused answer (length (now (out .entry))) ⌝ }
-    ensures bytes { λ _. ⌜ now (out .exit) ≡ wordBytes answer (now (out .entry)) ⌝ }
-{
-    let Answer::Is(word) = answer else {
-        return refused;
-    };
-    if out.len() < 4 {
-        return 5;
-    }
-    little_endian::put_word(out, word);
-    0
-}
-
+// ---- one number
 #[no_mangle]
 pub extern "C" fn hirupango_packed_score(
     x: i32,
@@ -45,7 +27,7 @@ pub extern "C" fn hirupango_packed_score(
     ensures number { λ r. ⌜ r ≡ wordNumber 2 (scoreAnswer x y sad diagonal average) (length (now (out .entry))) ⌝ }
     ensures bytes { λ _. ⌜ now (out .exit) ≡ wordBytes (scoreAnswer x y sad diagonal average) (now (out .entry)) ⌝ }
 {
-    give(2, score::packed_score(x, y, sad, diagonal, average), out)
+    answer_bytes::give(2, score::packed_score(x, y, sad, diagonal, average), out)
 }
 
 #[no_mangle]
@@ -53,16 +35,7 @@ pub extern "C" fn hirupango_diagonal(width: i32, height: i32, pel: i32, out: &mu
     ensures number { λ r. ⌜ r ≡ wordNumber 2 (diagonalAnswer width height pel) (length (now (out .entry))) ⌝ }
     ensures bytes { λ _. ⌜ now (out .exit) ≡ wordBytes (diagonalAnswer width height pel) (now (out .entry)) ⌝ }
 {
-    give(2, score::diagonal(width, height, pel), out)
-}
-
-fn slots_answer(search_param: i32) -> Answer
-    ensures { λ r. ⌜ r ≡ slotsAnswer «search_param» ⌝ }
-{
-    if !whole::within(search_param, -3, 3) {
-        return Answer::Refused;
-    }
-    Answer::Is(window::slots_of(limits::radius_of(search_param)))
+    answer_bytes::give(2, score::diagonal(width, height, pel), out)
 }
 
 #[no_mangle]
@@ -70,35 +43,7 @@ pub extern "C" fn hirupango_slots(search_param: i32, out: &mut [u8]) -> u32
     ensures number { λ r. ⌜ r ≡ wordNumber 1 (slotsAnswer «search_param») (length (now (out .entry))) ⌝ }
     ensures bytes { λ _. ⌜ now (out .exit) ≡ wordBytes (slotsAnswer «search_param») (now (out .entry)) ⌝ }
 {
-    give(1, slots_answer(search_param), out)
-}
-
-// ---- block cost
-fn is_size(width: i32, height: i32) -> bool
-    ensures { λ r. ⌜ r ≡ isSize width height ⌝ }
-{
-    let by_16 = whole::within(height, 16, 16) | whole::within(height, 8, 8);
-    let by_8 = whole::within(height, 8, 8) | whole::within(height, 4, 4);
-    let by_4 = whole::within(height, 4, 4);
-    whole::within(width, 16, 16) & by_16
-        | whole::within(width, 8, 8) & by_8
-        | whole::within(width, 4, 4) & by_4
-}
-
-fn numbers_fit(measure: i32, width: i32, height: i32, a_pitch: i32, b_pitch: i32) -> bool
-    ensures { λ r. ⌜ r ≡ numbersFit measure width height «a_pitch» «b_pitch» ⌝ }
-{
-    whole::within(measure, 0, 1)
-        & is_size(width, height)
-        & whole::within(a_pitch, width, 65536)
-        & whole::within(b_pitch, width, 65536)
-}
-
-fn is_held(s: &[u8], pitch: usize, width: usize, height: usize) -> bool
-    requires { ⌜ (pitch ≤ 65536) × ((width ≤ 16) × ((0 < height) × (height ≤ 16))) ⌝ }
-    ensures { λ r. ⌜ r ≡ isHeld (now (s .entry)) pitch width height ⌝ }
-{
-    (height - 1) * pitch + width <= s.len()
+    answer_bytes::give(1, answer_bytes::slots_answer(search_param), out)
 }
 
 #[no_mangle]
@@ -115,22 +60,7 @@ pub extern "C" fn hirupango_block_cost(
     ensures number { λ r. ⌜ r ≡ costNumber measure width height (now (a .entry)) «a_pitch» (now (b .entry)) «b_pitch» (length (now (out .entry))) ⌝ }
     ensures bytes { λ _. ⌜ now (out .exit) ≡ costBytes measure width height (now (a .entry)) «a_pitch» (now (b .entry)) «b_pitch» (now (out .entry)) ⌝ }
 {
-    if !numbers_fit(measure, width, height, a_pitch, b_pitch) {
-        return 2;
-    }
-    let w = width as usize;
-    let h = height as usize;
-    let p = a_pitch as usize;
-    let q = b_pitch as usize;
-    if !(is_held(a, p, w, h) & is_held(b, q, w, h)) {
-        return 3;
-    }
-    if out.len() < 4 {
-        return 5;
-    }
-    let value = distance::cost(0 < measure, w, h, a, p, b, q);
-    little_endian::put_word(out, value as i32);
-    0
+    answer_bytes::block_cost(measure, width, height, a, a_pitch, b, b_pitch, out)
 }
 
 // ---- the pass

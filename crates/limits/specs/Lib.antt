@@ -1,4 +1,5 @@
 pub mod Limits
+pub mod Sizes
 pub mod Refusals
 pub mod Refused
 pub mod Ranges

@@ -1,15 +1,25 @@
 -- How large the accepted numbers are: what holds at pel 1, 2 and 4 holds at every pel, what holds at radius 0 to 3 at every radius. Assumes nothing.
 use mathlib.Core.Path.{_≡_}
-use mathlib.Core.Bool.{true, _&&_, _||_}
+use mathlib.Core.Bool.{Bool, true, false, cond, _&&_, _||_}
 use mathlib.Core.Logic.{_⊎_, inl, inr, ⊎-elim}
 use native.Mathlib.Omega.{arith}
 use Prim.Native.Nat.{zero, suc}
+use lib.Dec.{lit<}
 use lib.IntN.{ℤ, pos, negsuc}
+use lib.Signed.{ltZ, shrZ, _≤ℤ_}
 use Rattle.whole.specs.Numbers.{liesIn}
 use Rattle.whole.specs.Signed.{signed, abs-is}
 use Rattle.whole.specs.Truth.{left-of, right-of, either-of, lies-low, lies-high}
+use Rattle.whole.specs.Floor.{floor-low, floor-high}
 use Rattle.whole.specs.Interval.{Within}
-use Rattle.limits.specs.Limits.{same, isBlock, isPel, areShifts, radiusOf}
+use Rattle.limits.specs.Limits.{same, isBlock, isPel, areShifts, shiftedBy, radiusOf}
+
+-- a number from least to greatest, as an order on whole numbers
+pub lies : (least greatest z : ℤ) → liesIn least greatest z ≡ true → (least ≤ℤ z) × (z ≤ℤ greatest)
+lies least greatest z e =
+    let low = lies-low least greatest z e in
+    let high = lies-high least greatest z e in
+    (omega signed, omega signed)
 
 pub same-is : (x y : ℤ) → same x y ≡ true → y ≡ x
 same-is x y e = let low = lies-low x x y e in let high = lies-high x x y e in omega signed
@@ -73,3 +83,14 @@ block-within width height e =
     (λ a. (is-8 (left-of w8 h8 a), is-8 (right-of w8 h8 a)))
     (λ a. (is-16 (left-of w16 (h8 || h16) a), ⊎-elim (λ b. is-8 b) (λ b. is-16 b) (either-of h8 h16 (right-of w16 (h8 || h16) a))))
     (either-of (w8 && h8) (w16 && (h8 || h16)) e)
+
+-- a frame's side, shifted, is still a side
+pub shifted-least : (z s : ℤ) → pos 2 ≤ℤ z → z ≤ℤ pos 16384 → (pos 1 ≤ℤ shiftedBy z s) × (shiftedBy z s ≤ℤ pos 16384)
+shifted-least z s low high = by (ltZ s (pos 1))
+  where
+    by : (t : Bool) → (pos 1 ≤ℤ cond t z (shrZ z 2)) × (cond t z (shrZ z 2) ≤ℤ pos 16384)
+    by true = (omega signed, omega signed)
+    by false =
+        let below = floor-low {m = 2} (lit< tt) z in
+        let above = floor-high {m = 2} (lit< tt) z in
+        (omega (signed, below, above), omega (signed, below, above))

@@ -1,9 +1,16 @@
-// The numbers that are accepted, one test for each kind. Several entries ask the same ones.
+// The numbers that are accepted, one test for each kind, which several entries ask; and how many numbers a record and a best take.
 
 ghost use mathlib.Core.Path.{_≡_};
 ghost use Prim.Native.Nat.{_≤_};
 ghost use Rattle.whole.specs.Interval.{Within};
 ghost use Rattle.limits.specs.Limits.{isBlock, isGridSide, isStep, isFrameSide, isPel, areShifts, shiftedBy, isPitch, isLength, blocksOf, radiusOf};
+
+// Named, so that a record that grows is changed in one place.
+pub const WORDS_PER_RECORD: usize = 12;
+
+pub const BYTES_PER_RECORD: usize = 4 * WORDS_PER_RECORD;
+
+pub const NUMBERS_PER_BEST: usize = 4;
 
 pub fn is_grid_side(side: i32) -> bool
     ensures { λ r. ⌜ r ≡ isGridSide side ⌝ }

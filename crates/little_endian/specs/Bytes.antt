@@ -1,6 +1,6 @@
 -- 01, "Port order and what changes shape": "writes its value as 4 little-endian bytes"; "Plan file": "records of 12 little-endian words". Definitions alone.
-use mathlib.Core.List.{List, [], _∷_}
-use Prim.Native.Nat.{ℕ, _+_, _*_}
+use mathlib.Core.List.{List, [], _∷_, _++_}
+use Prim.Native.Nat.{ℕ, zero, suc, _+_, _*_}
 use lib.IntN.{ℤ, pos}
 use lib.ListN.{getD}
 use lib.Signed.{shrZ}
@@ -14,3 +14,8 @@ bytesOf word = modZ word 256 ∷ modZ (shrZ word 256) 256 ∷ modZ (shrZ word 65
 -- the word whose bytes stand at a place, the lowest first: its 32 bits, read as a signed number
 unfoldable pub wordAt : List ℕ → ℕ → ℤ
 wordAt bytes at = wrapped w32 (pos (getD bytes at 0 + 256 * getD bytes (at + 1) 0 + 65536 * getD bytes (at + 2) 0 + 16777216 * getD bytes (at + 3) 0))
+
+-- the first so many words of some bytes, one behind the other
+unfoldable pub wordsUpto : List ℕ → ℕ → List ℤ
+wordsUpto bytes zero = []
+wordsUpto bytes (suc n) = wordsUpto bytes n ++ wordAt bytes (4 * n) ∷ []

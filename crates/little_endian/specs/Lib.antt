@@ -1,3 +1,4 @@
 pub mod Bytes
 pub mod Stores
 pub mod Undone
+pub mod WordsRead

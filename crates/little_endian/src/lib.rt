@@ -1,11 +1,11 @@
-// A word as four bytes, the lowest first: written, and read.
+// A word as four bytes, the lowest first: written, and read, one or as many as there is room for.
 
 ghost use mathlib.Core.Path.{_≡_};
 ghost use mathlib.Core.List.{_++_};
-ghost use Prim.Native.Nat.{_+_, _<_, _≤_};
+ghost use Prim.Native.Nat.{_+_, _*_, _<_, _≤_};
 ghost use lib.ListN.{length, drop};
 ghost use Rattle.whole.specs.Numbers.{modZ};
-ghost use Rattle.little_endian.specs.Bytes.{bytesOf, wordAt};
+ghost use Rattle.little_endian.specs.Bytes.{bytesOf, wordAt, wordsUpto};
 
 fn low_byte(word: i32) -> u8
     ensures { λ r. ⌜ r ≡ modZ word 256 ⌝ }
@@ -40,4 +40,16 @@ pub fn word_at(bytes: &[u8], at: usize) -> i32
     let c = wide(bytes[at + 2]);
     let d = wide(bytes[at + 3]);
     whole::wrap32((a + 256 * b + 65536 * c + 16777216 * d) as i64)
+}
+
+// The words from the first byte on, as many as there is room for.
+pub fn words_into(bytes: &[u8], words: &mut [i32])
+    requires { ⌜ 4 * length (now words) ≤ length (now bytes) ⌝ }
+    ensures { λ _. ⌜ now (words .exit) ≡ wordsUpto (now (bytes .entry)) (length (now (words .entry))) ⌝ }
+{
+    let mut i: usize = 0;
+    while i < words.len() {
+        words[i] = word_at(bytes, 4 * i);
+        i += 1;
+    }
 }

@@ -10,19 +10,19 @@ use Rattle.score.specs.Score.{scoreAnswer}
 use Rattle.score.specs.Diagonal.{diagonalAnswer}
 use Rattle.serpentine.specs.Answers.{positionRefusal, blockRefusal, orderRefusal}
 use Rattle.plane.specs.declared.Place.{Place}
-use Rattle.block.specs.declared.Sides.{Sides}
-use Rattle.block.specs.declared.Planes.{Planes}
+use Rattle.planes.specs.declared.Sides.{Sides}
+use Rattle.planes.specs.declared.Planes.{Planes}
 use Rattle.block.specs.declared.Settings.{Settings}
 use Rattle.planning.specs.Refusals as planning
 use Rattle.evaluation.specs.declared.Request.{Request}
 use Rattle.evaluation.specs.Refusals as evaluation
 use Rattle.finishing.specs.Finish.{finishAnswer}
 use Rattle.plan_file.specs.PlanFile.{planOf, planNumber}
-use Rattle.plan_file.specs.Report.{headAnswer, lineAnswer, writtenNumber}
+use Rattle.plan_lines.specs.Report.{headAnswer, lineAnswer, writtenNumber}
 use Rattle.plan_file.specs.Examples.{asBytes}
-use Rattle.hirupango.specs.BlockCost.{costNumber}
-use Rattle.hirupango.specs.Word.{wordNumber}
-use Rattle.hirupango.specs.Slots.{slotsAnswer}
+use Rattle.answer_bytes.specs.BlockCost.{costNumber}
+use Rattle.answer_bytes.specs.Word.{wordNumber}
+use Rattle.answer_bytes.specs.Slots.{slotsAnswer}
 use Rattle.numbers_to_hold.specs.Rows.{Row, is}
 
 abbrev gives : ℕ → ℕ → Row

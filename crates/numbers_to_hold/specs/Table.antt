@@ -27,6 +27,7 @@ use Rattle.block.specs.Shapes.{lambdaOf, negativeOf, axisOf, shapeOf, chromaPla
 use Rattle.block.specs.Steps.{filledWith, settledAt, quietRecord, badRecord, badStep, quietStep, stepWith, stepOf}
 use Rattle.limits.specs.Refusals.{anyUpto}
 use Rattle.passes.specs.Fold.{blockAt, turnAt, slotsAt, allFit}
+use Rattle.planes.specs.Planes.{chromaHolds, planesHold, holds3}
 use Rattle.planning.specs.Refusals as planning
 use Rattle.records.specs.Unpacking.{recordOf}
 use Rattle.window.specs.Windows.{isWide}
@@ -34,13 +35,12 @@ use Rattle.record_slice.specs.RecordSlice.{wordsFrom, recordAt}
 use Rattle.evaluation.specs.Refusals as evaluation
 use Rattle.finishing.specs.Finish.{finishAnswer}
 use Rattle.serpentine.specs.Answers.{positionRefusal, blockRefusal, orderRefusal}
-use Rattle.little_endian.specs.Bytes.{wordAt, bytesOf}
+use Rattle.little_endian.specs.Bytes.{wordAt, wordsUpto, bytesOf}
 use Rattle.report_text.specs.Text.{digitsBy, digits, decimal}
 use Rattle.plan_file.specs.PlanFile.{trailerOf, trailerHolds, isPlanFile, headOf, tally, planOf}
-use Rattle.plan_file.specs.PlanFile as file
-use Rattle.plan_file.specs.Report.{headText, lineText, headAnswer, lineAnswer}
-use Rattle.hirupango.specs.BlockCost.{costNumber}
-use Rattle.hirupango.specs.Slots.{slotsAnswer}
+use Rattle.plan_lines.specs.Report.{headText, lineText, headAnswer, lineAnswer}
+use Rattle.answer_bytes.specs.BlockCost.{costNumber}
+use Rattle.answer_bytes.specs.Slots.{slotsAnswer}
 use Rattle.numbers_to_hold.specs.Rows.{Row, is, Every, every-of}
 use Rattle.numbers_to_hold.specs.Refusals.{refusals}
 
@@ -141,10 +141,10 @@ numbersToHold =
 -- ---- the theorem, of these and of the refusals that the paper states as numbers
 pub all-hold : Every (numbersToHold ++ refusals)
 unfolding numbersToHold refusals packedPair packedRecord recordFits recordWords numbers walk each row sum sumZ hadamardAt tileSum diagonalAnswer diagonalOf
-    rootOf scoreAnswer packedScore excessOf placeOf windowOf subpelOf planning.refusalOf planning.holds1 planning.holds2 planning.holds3 planning.axisHolds
-    planning.chromaHolds planning.planesHold planning.vectorFits planning.entryHolds allFit turnAt blockAt slotsAt stepOf stepWith quietStep quietRecord
+    rootOf scoreAnswer packedScore excessOf placeOf windowOf subpelOf planning.refusalOf planning.holds1 planning.holds2 holds3 planning.axisHolds
+    chromaHolds planesHold planning.vectorFits planning.entryHolds allFit turnAt blockAt slotsAt stepOf stepWith quietStep quietRecord
     badStep badRecord filledWith settledAt spotOf chromaPlace negativeOf axisOf shapeOf evaluation.refusalOf evaluation.holds1 evaluation.holds2
     evaluation.referenceHolds evaluation.referencesHold anyUpto isWide recordAt recordOf wordsFrom finishAnswer positionRefusal blockRefusal orderRefusal
-    planOf isPlanFile trailerHolds trailerOf headOf tally file.recordAt file.wordsAt headText lineText headAnswer lineAnswer decimal digits digitsBy wordAt
+    planOf isPlanFile trailerHolds trailerOf headOf tally wordsUpto headText lineText headAnswer lineAnswer decimal digits digitsBy wordAt
     bytesOf costNumber slotsAnswer
 all-hold = every-of (numbersToHold ++ refusals) refl

@@ -2,13 +2,13 @@
 // what was found, and where its samples came from. Anything on standard input asks for the plan
 // alone, as a plan file of form 1.
 use block::Level;
-use block::Planes;
 use block::Search;
 use block::Settings;
-use block::Sides;
 use block::Weights;
 use evaluation::Request;
 use plane::Place;
+use planes::Planes;
+use planes::Sides;
 use planning::Planned;
 use records::Offset;
 use records::Pair;
@@ -268,8 +268,12 @@ fn show_block(records: &[i32; 288], order: &[i32; 48], bests: &[i32; 96], k: usi
     let predictor = given.predictor;
     show_pair(order[2 * k], order[2 * k + 1], 5);
     show_pair(predictor.first, predictor.second, 10);
-    show_pair(bests[4 * k], bests[4 * k + 1], 8);
-    show_number(bests[4 * k + 2], 7);
+    show_pair(
+        bests[limits::NUMBERS_PER_BEST * k],
+        bests[limits::NUMBERS_PER_BEST * k + 1],
+        8,
+    );
+    show_number(bests[limits::NUMBERS_PER_BEST * k + 2], 7);
     let full = given.full;
     let overlay = given.overlay;
     let average = given.average;

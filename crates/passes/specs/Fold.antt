@@ -9,7 +9,7 @@ use Rattle.records.specs.declared.Words.{Words}
 use Rattle.records.specs.Packing.{recordFits, recordWords}
 use Rattle.slots.specs.declared.Slots.{Slots}
 use Rattle.slots.specs.Slots.{atStart}
-use Rattle.block.specs.declared.Sides.{Sides}
+use Rattle.planes.specs.declared.Sides.{Sides}
 use Rattle.block.specs.declared.Settings.{Settings}
 use Rattle.block.specs.declared.Block.{Block}
 use Rattle.block.specs.declared.Step.{Step}

@@ -8,13 +8,15 @@ use native.Mathlib.Nat.{mul-le-mul}
 use native.Mathlib.Numerals.{add-one}
 use native.Mathlib.Omega.{arith}
 use lib.IntN.{ℤ, pos, natAbs}
-use lib.ListN.{length, getD, set, take, drop, length-append, length-drop}
-use lib.Seq.{paste, take-at, take-all, drop-append-add, drop-drop, drop-cons, set-at, append-snoc}
+use lib.ListN.{length, getD, set, drop, length-append, length-drop}
+use lib.Seq.{paste}
+use Rattle.limits.specs.Sizes.{wordsPerRecord}
+use Rattle.whole.specs.Lists.{paste-next, set-next}
 use Rattle.whole.specs.Signed.{signed, abs-is, lt-or-ge}
 use Rattle.records.specs.declared.Words.{Words}
 use Rattle.records.specs.Packing.{recordFits, recordWords}
 use Rattle.slots.specs.declared.Slots.{Slots}
-use Rattle.block.specs.declared.Sides.{Sides}
+use Rattle.planes.specs.declared.Sides.{Sides}
 use Rattle.block.specs.declared.Settings.{Settings}
 use Rattle.block.specs.declared.Block.{Block}
 use Rattle.block.specs.declared.Step.{Step}
@@ -22,14 +24,6 @@ use Rattle.block.specs.Steps.{stepOf}
 use Rattle.passes.specs.declared.Turn.{Turn}
 use Rattle.passes.specs.Fold.{wordList, indexAt, blockAt, turnAt, slotsAt, turnOf, allFit, wordsUpto, indicesUpto}
 use Rattle.passes.specs.Asked.{Listed}
-
--- ---- lists: the next run of words goes where the old tail begins
-pub paste-next : {A : Type 0} (a w d : List A) (n k : ℕ) → length a ≡ n → length w ≡ k → paste (a ++ drop n d) n w k ≡ (a ++ w) ++ drop (n + k) d
-paste-next {A = A} a w d n k p q =
-    ap (λ (l : List A). l ++ take k w ++ drop (n + k) (a ++ drop n d)) (take-at a (drop n d) n p)
-    ∙ ap (λ (l : List A). a ++ l ++ drop (n + k) (a ++ drop n d)) (take-all k w (omega arith))
-    ∙ ap (λ (l : List A). a ++ w ++ l)
-    (ap (λ (m : ℕ). drop (m + k) (a ++ drop n d)) (sym p) ∙ drop-append-add a (drop n d) k ∙ drop-drop k n d)
 
 -- ---- a turn's stages
 pub turn-made : (s : Settings) (order vectors : List ℤ) (i : ℕ) (t : Slots) {index : ℕ} {b : Block} {d : Step} {fits : Bool} {words : Words} →
@@ -39,7 +33,7 @@ unfolding turnAt
 turn-made s order vectors i t p e f g h = cc
 
 module _ (s : Settings) (order vectors : List ℤ) where
-  pub words-long : (i : ℕ) → length (wordsUpto s order vectors i) ≡ 12 * i
+  pub words-long : (i : ℕ) → length (wordsUpto s order vectors i) ≡ wordsPerRecord * i
   unfolding wordsUpto
   words-long zero = refl
   words-long (suc i) = length-append (wordsUpto s order vectors i) (wordList (turnOf s order vectors i .words)) ∙ omega (arith, words-long i)
@@ -80,25 +74,23 @@ module _ {s : Settings} {order vectors : List ℤ} {i : ℕ} {t : Slots} {r : Tu
   unfolding allFit
   misfit-at n l a f = misfit-stays s order vectors (suc i) n l (rw a (sym (ap (λ (x : Turn). x .fits) turn-is) ∙ f))
 
-  pub words-next : (old : List ℤ) {d : List ℤ} → d ≡ wordsUpto s order vectors i ++ drop (12 * i) old →
-      paste d (12 * i) (wordList (r .words)) 12 ≡ wordsUpto s order vectors (i + 1) ++ drop (12 * (i + 1)) old
+  pub words-next : (old : List ℤ) {d : List ℤ} → d ≡ wordsUpto s order vectors i ++ drop (wordsPerRecord * i) old →
+      paste d (wordsPerRecord * i) (wordList (r .words)) wordsPerRecord ≡ wordsUpto s order vectors (i + 1) ++ drop (wordsPerRecord * (i + 1)) old
   unfolding wordsUpto
   words-next old e =
-      let m : 12 * (i + 1) ≡ 12 * i + 12 = omega arith in
+      let m : wordsPerRecord * (i + 1) ≡ wordsPerRecord * i + wordsPerRecord = omega arith in
       rw (m, add-one)
-      (ap (λ (l : List ℤ). paste l (12 * i) (wordList (r .words)) 12) e
-      ∙ paste-next (wordsUpto s order vectors i) (wordList (r .words)) old (12 * i) 12 (words-long s order vectors i) refl
-      ∙ ap (λ (x : Turn). (wordsUpto s order vectors i ++ wordList (x .words)) ++ drop (12 * i + 12) old) turn-is)
+      (ap (λ (l : List ℤ). paste l (wordsPerRecord * i) (wordList (r .words)) wordsPerRecord) e
+      ∙ paste-next (wordsUpto s order vectors i) (wordList (r .words)) old (wordsPerRecord * i) wordsPerRecord (words-long s order vectors i) refl
+      ∙ ap (λ (x : Turn). (wordsUpto s order vectors i ++ wordList (x .words)) ++ drop (wordsPerRecord * i + wordsPerRecord) old) turn-is)
 
   pub indices-next : (old : List ℤ) {d : List ℤ} → i < length old → d ≡ indicesUpto s order vectors i ++ drop i old →
       set d i (pos (r .index)) ≡ indicesUpto s order vectors (i + 1) ++ drop (i + 1) old
   unfolding indicesUpto
   indices-next old l e =
-      rw add-one
-      (ap (λ (m : List ℤ). set m i (pos (r .index))) (e ∙ ap (λ (m : List ℤ). indicesUpto s order vectors i ++ m) (drop-cons old i (pos 0) l))
-      ∙ set-at (indicesUpto s order vectors i) (getD old i (pos 0)) (drop (suc i) old) (pos (r .index)) i (indices-long s order vectors i)
-      ∙ sym (append-snoc (indicesUpto s order vectors i) (pos (r .index)) (drop (suc i) old))
-      ∙ ap (λ (x : Turn). (indicesUpto s order vectors i ++ (pos (x .index) ∷ [])) ++ drop (suc i) old) turn-is)
+      ap (λ (m : List ℤ). set m i (pos (r .index))) e
+      ∙ set-next (pos 0) (indicesUpto s order vectors i) old i (pos (r .index)) (indices-long s order vectors i) l
+      ∙ rw add-one (ap (λ (x : Turn). (indicesUpto s order vectors i ++ (pos (x .index) ∷ [])) ++ drop (suc i) old) turn-is)
 
   pub index-is : r .index ≡ indexAt (s .grid) order i
   unfolding turnAt
@@ -107,21 +99,22 @@ module _ {s : Settings} {order vectors : List ℤ} {i : ℕ} {t : Slots} {r : Tu
 -- ---- the second pass after i blocks: their words and indices stand in front of the old tails
 pub record Passed (s : Settings) (order vectors : List ℤ) (i : ℕ) (old-words words old-indices indices : List ℤ) (t : Slots) : Type 0 where
   pub here : t ≡ slotsAt s order vectors i
-  pub words-are : words ≡ wordsUpto s order vectors i ++ drop (12 * i) old-words
+  pub words-are : words ≡ wordsUpto s order vectors i ++ drop (wordsPerRecord * i) old-words
   pub indices-are : indices ≡ indicesUpto s order vectors i ++ drop i old-indices
 
 module _ {s : Settings} {order vectors : List ℤ} {i : ℕ} {old-words words old-indices indices : List ℤ} {t : Slots}
     (p : Passed s order vectors i old-words words old-indices indices t) where
-  pub words-kept : 12 * i ≤ length old-words → length words ≡ length old-words
-  words-kept l = ap length (p .words-are) ∙ length-append (wordsUpto s order vectors i) (drop (12 * i) old-words)
-      ∙ omega (arith, words-long s order vectors i, length-drop (12 * i) old-words)
+  pub words-kept : wordsPerRecord * i ≤ length old-words → length words ≡ length old-words
+  words-kept l = ap length (p .words-are) ∙ length-append (wordsUpto s order vectors i) (drop (wordsPerRecord * i) old-words)
+      ∙ omega (arith, words-long s order vectors i, length-drop (wordsPerRecord * i) old-words)
 
   pub indices-kept : i ≤ length old-indices → length indices ≡ length old-indices
   indices-kept l = ap length (p .indices-are) ∙ length-append (indicesUpto s order vectors i) (drop i old-indices)
       ∙ omega (arith, indices-long s order vectors i, length-drop i old-indices)
 
   pub passed-more : {r : Turn} → i < length old-indices → r ≡ turnAt s order vectors i t →
-      Passed s order vectors (i + 1) old-words (paste words (12 * i) (wordList (r .words)) 12) old-indices (set indices i (pos (r .index))) (r .slots)
+      Passed s order vectors (i + 1) old-words (paste words (wordsPerRecord * i) (wordList (r .words)) wordsPerRecord)
+      old-indices (set indices i (pos (r .index))) (r .slots)
   passed-more {r} l e =
       let k : Turned s order vectors i t r = record { here = p .here; did = e } in
       record { here = slots-next k; words-are = words-next k old-words (p .words-are); indices-are = indices-next k old-indices l (p .indices-are) }

@@ -1,7 +1,7 @@
 // Planning's two passes over the order: the first asks whether every record fits, the second writes.
 use block::Block;
 use block::Settings;
-use block::Sides;
+use planes::Sides;
 use records::Words;
 use slots::Slots;
 ghost use mathlib.Core.Path.{_≡_};
@@ -9,6 +9,7 @@ ghost use mathlib.Core.List.{_++_};
 ghost use Prim.Native.Nat.{_+_, _*_, _≤_};
 ghost use lib.ListN.{length, drop};
 ghost use lib.Seq.{paste};
+ghost use Rattle.limits.specs.Sizes.{wordsPerRecord};
 ghost use Rattle.passes.specs.Fold.{wordList, indexAt, blockAt, turnAt, allFit, wordsUpto, indicesUpto};
 ghost use Rattle.passes.specs.Asked.{Listed, Serves, Served};
 
@@ -137,11 +138,11 @@ fn listed(words: Words) -> [i32; 12]
 }
 
 fn put(records: &mut [i32], at: usize, words: [i32; 12])
-    requires { ⌜ at + 12 ≤ length (now records) ⌝ }
-    ensures { λ _. ⌜ now (records .exit) ≡ paste (now (records .entry)) at words 12 ⌝ }
+    requires { ⌜ at + wordsPerRecord ≤ length (now records) ⌝ }
+    ensures { λ _. ⌜ now (records .exit) ≡ paste (now (records .entry)) at words wordsPerRecord ⌝ }
 {
     let mut i: usize = 0;
-    while i < 12 {
+    while i < limits::WORDS_PER_RECORD {
         let word = words[i];
         records[at + i] = word;
         i += 1;
@@ -160,8 +161,8 @@ pub fn write_all(
     indices: &mut [i32],
 )
     requires { ⌜ Served s (now order) (now vectors) n ⌝ }
-    requires { ⌜ (12 * n ≤ length (now records)) × (n ≤ length (now indices)) ⌝ }
-    ensures { λ _. ⌜ now (records .exit) ≡ wordsUpto s (now (order .entry)) (now (vectors .entry)) n ++ drop (12 * n) (now (records .entry)) ⌝ }
+    requires { ⌜ (wordsPerRecord * n ≤ length (now records)) × (n ≤ length (now indices)) ⌝ }
+    ensures { λ _. ⌜ now (records .exit) ≡ wordsUpto s (now (order .entry)) (now (vectors .entry)) n ++ drop (wordsPerRecord * n) (now (records .entry)) ⌝ }
     ensures { λ _. ⌜ now (indices .exit) ≡ indicesUpto s (now (order .entry)) (now (vectors .entry)) n ++ drop n (now (indices .entry)) ⌝ }
 {
     let mut slots = slots::at_start();
@@ -169,7 +170,7 @@ pub fn write_all(
     while i < n {
         let turn = turn_at(s, order, vectors, luma, u, v, i, slots);
         let words = turn.words;
-        put(records, 12 * i, listed(words));
+        put(records, limits::WORDS_PER_RECORD * i, listed(words));
         let index = turn.index;
         indices[i] = index as i32;
         slots = turn.slots;

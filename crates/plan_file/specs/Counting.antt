@@ -5,15 +5,17 @@ use mathlib.Core.List.{List}
 use Prim.Native.Nat.{ℕ, zero, suc, _+_, _≤_}
 use native.Mathlib.Numerals.{add-one}
 use native.Mathlib.Omega.{arith}
+use lib.IntN.{ℤ}
 use Rattle.records.specs.declared.Record.{Record}
-use Rattle.plan_file.specs.PlanFile.{recordAt, tally}
+use Rattle.record_slice.specs.RecordSlice.{recordAt}
+use Rattle.plan_file.specs.PlanFile.{tally}
 
-module _ (test : Record → Bool) (file : List ℕ) where
-  pub none-counted : 0 ≡ tally test file 0
+module _ (test : Record → Bool) (words : List ℤ) where
+  pub none-counted : 0 ≡ tally test words 0
   unfolding tally
   none-counted = refl
 
-  pub one-more-counted : (n : ℕ) → tally test file (n + 1) ≡ tally test file n + cond (test (recordAt file n)) 1 0
+  pub one-more-counted : (n : ℕ) → tally test words (n + 1) ≡ tally test words n + cond (test (recordAt words n)) 1 0
   unfolding tally
   one-more-counted n = rw add-one
 
@@ -21,7 +23,7 @@ module _ (test : Record → Bool) (file : List ℕ) where
   one-at-most true = omega arith
   one-at-most false = omega arith
 
-  pub counted-most : (n : ℕ) → tally test file n ≤ n
+  pub counted-most : (n : ℕ) → tally test words n ≤ n
   unfolding tally
   counted-most zero = omega arith
-  counted-most (suc n) = omega (arith, counted-most n, one-at-most (test (recordAt file n)))
+  counted-most (suc n) = omega (arith, counted-most n, one-at-most (test (recordAt words n)))

@@ -1,18 +1,17 @@
--- 01, "Plan file": its listing, from the bytes of its words to the two lines, by computation.
+-- 01, "Plan file": its listing is accepted, from the bytes of its words, by computation.
 use mathlib.Core.Path.{_≡_, refl}
 use mathlib.Core.List.{List, [], _∷_, _++_}
 use Prim.Native.Nat.{ℕ}
 use lib.IntN.{ℤ, pos, negsuc}
 use Rattle.limits.specs.Refusals.{anyUpto}
-use Rattle.little_endian.specs.Bytes.{bytesOf, wordAt}
+use Rattle.little_endian.specs.Bytes.{bytesOf, wordAt, wordsUpto}
 use Rattle.records.specs.Packing.{absentWord}
 use Rattle.records.specs.Unpacking.{recordOf}
-use Rattle.report_text.specs.Text.{codes, digitsBy, digits, decimal}
 use Rattle.plan_file.specs.declared.Head.{Head}
 use Rattle.plan_file.specs.declared.Plan.the-variants as plan
 use Rattle.window.specs.Windows.{isWide}
-use Rattle.plan_file.specs.PlanFile.{wordsAt, recordAt, trailerOf, trailerHolds, isPlanFile, tally, headOf, planOf}
-use Rattle.plan_file.specs.Report.{headText, lineText}
+use Rattle.record_slice.specs.RecordSlice.{wordsFrom, recordAt}
+use Rattle.plan_file.specs.PlanFile.{trailerOf, trailerHolds, isPlanFile, tally, headOf, planOf}
 
 abbrev pub asBytes : List ℤ → List ℕ
 unfolding bytesOf
@@ -30,14 +29,5 @@ abbrev pub listedHead : Head
 listedHead = record { count = pos 1; searched = pos 0; width = pos 8; height = pos 8; pel = pos 2; slots = pos 10 }
 
 pub listing-accepted : planOf listed ≡ plan.Accepted listedHead
-unfolding planOf isPlanFile trailerHolds trailerOf headOf anyUpto isWide tally recordAt wordsAt recordOf wordAt bytesOf
+unfolding planOf isPlanFile trailerHolds trailerOf headOf anyUpto isWide tally recordAt wordsFrom recordOf wordsUpto wordAt bytesOf
 listing-accepted = refl
-
--- "it prints"
-pub listing-head : headText listedHead ≡ codes "plan blocks=1 searched=0 size=8x8 pel=2 slots=10\n"
-unfolding headText decimal digits digitsBy
-listing-head = refl
-
-pub listing-line : lineText (pos 0) (recordAt listed 0) ≡ codes "0 bad=0 half=0 lambda=0 predictor=3,-4 sad=10 average=none window=0,-1,0,-1\n"
-unfolding lineText decimal digits digitsBy recordAt wordsAt recordOf wordAt bytesOf
-listing-line = refl

@@ -1,9 +1,5 @@
 pub mod PlanFile
 pub mod Served
 pub mod Counting
-pub mod Report
-pub mod Parts
-pub mod Reported
 pub mod Alike
-pub mod Lengths
 pub mod Examples

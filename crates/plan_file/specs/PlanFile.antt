@@ -3,43 +3,25 @@
 -- above." The limits: "Block 8x8, 16x8 or 16x16", "Pel 1, 2 or 4", a radius of at most 3. Definitions alone.
 use mathlib.Core.Bool.{Bool, cond, _&&_}
 use mathlib.Core.List.{List}
-use Prim.Native.Nat.{ℕ, zero, suc, _+_, _-_, _*_}
+use Prim.Native.Nat.{ℕ, zero, suc, _+_, _-_, _/_}
 use lib.Dec.{leb}
 use lib.IntN.{ℤ, pos, natAbs, _+ℤ_, _*ℤ_}
 use lib.ListN.{length}
 use Rattle.whole.specs.Numbers.{liesIn}
 use Rattle.limits.specs.Limits.{same, isBlock, isPel}
-use Rattle.limits.specs.Refusals.{anyUpto}
-use Rattle.little_endian.specs.Bytes.{wordAt}
+use Rattle.limits.specs.Sizes.{bytesPerRecord}
+use Rattle.little_endian.specs.Bytes.{wordAt, wordsUpto}
 use Rattle.records.specs.declared.Record.{Record}
-use Rattle.records.specs.declared.Words.{Words}
-use Rattle.records.specs.Unpacking.{recordOf}
-use Rattle.window.specs.Windows.{isBad, isWide, slotsOf}
+use Rattle.window.specs.Windows.{isBad, slotsOf}
+use Rattle.record_slice.specs.RecordSlice.{recordAt, anyWide}
 use Rattle.plan_file.specs.declared.Trailer.{Trailer}
 use Rattle.plan_file.specs.declared.Head.{Head}
 use Rattle.plan_file.specs.declared.Plan.{Plan}
 use Rattle.plan_file.specs.declared.Plan.the-variants as plan
 
--- ---- the records: 48 bytes each, from byte 0 on
-unfoldable pub wordsAt : List ℕ → ℕ → Words
-wordsAt file at =
-    record {
-      full = wordAt file at;
-      overlay = wordAt file (at + 4);
-      u = wordAt file (at + 8);
-      v = wordAt file (at + 12);
-      average = wordAt file (at + 16);
-      pos = wordAt file (at + 20);
-      cpos = wordAt file (at + 24);
-      predictor = wordAt file (at + 28);
-      «window_x» = wordAt file (at + 32);
-      «window_y» = wordAt file (at + 36);
-      sad = wordAt file (at + 40);
-      last = wordAt file (at + 44);
-    }
-
-unfoldable pub recordAt : List ℕ → ℕ → Record
-recordAt file number = recordOf (wordsAt file (48 * number))
+-- ---- the records: "12 little-endian words from byte 0" each, so that they are read as from a slice of the file's words
+abbrev pub wordsOf : List ℕ → List ℤ
+wordsOf file = wordsUpto file (length file / 4)
 
 -- ---- the trailer: the last 32 bytes
 unfoldable pub trailerOf : List ℕ → Trailer
@@ -57,7 +39,7 @@ trailerOf file =
     }
 
 abbrev pub lengthsHold : ℤ → ℤ → ℕ → Bool
-lengthsHold back count bytes = same (back +ℤ pos 32) (pos bytes) && same back (count *ℤ pos 48)
+lengthsHold back count bytes = same (back +ℤ pos 32) (pos bytes) && same back (count *ℤ pos bytesPerRecord)
 
 unfoldable pub trailerHolds : Trailer → ℕ → Bool
 trailerHolds t bytes =
@@ -72,18 +54,14 @@ trailerHolds t bytes =
 unfoldable pub isPlanFile : List ℕ → Bool
 isPlanFile file = leb 32 (length file) && leb (length file) 65536 && trailerHolds (trailerOf file) (length file)
 
--- whether any of the first so many records is so wide
-abbrev pub anyWide : ℤ → List ℕ → ℕ → Bool
-anyWide radius file n = anyUpto (λ i. isWide radius (recordAt file i)) n
-
 -- "a BAD record's window has both sides non-empty and one over 2 x radius + 1", of any record of the file
 abbrev pub wideFile : List ℕ → Bool
-wideFile file = anyWide (trailerOf file .radius) file (natAbs (trailerOf file .count))
+wideFile file = anyWide (trailerOf file .radius) (wordsOf file) (natAbs (trailerOf file .count))
 
 -- how many of the first so many records pass a test
-unfoldable pub tally : (Record → Bool) → List ℕ → ℕ → ℕ
-tally test file zero = 0
-tally test file (suc n) = tally test file n + cond (test (recordAt file n)) 1 0
+unfoldable pub tally : (Record → Bool) → List ℤ → ℕ → ℕ
+tally test words zero = 0
+tally test words (suc n) = tally test words n + cond (test (recordAt words n)) 1 0
 
 -- ---- "First line: count, records with BAD set, block size, pel, slots"
 unfoldable pub headOf : List ℕ → Head
@@ -92,7 +70,7 @@ headOf file =
     let t : Trailer = trailerOf file in
     record {
       count = t .count;
-      searched = pos (tally isBad file (natAbs (t .count)));
+      searched = pos (tally isBad (wordsOf file) (natAbs (t .count)));
       width = t .width;
       height = t .height;
       pel = t .pel;

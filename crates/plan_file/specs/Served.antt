@@ -2,7 +2,7 @@
 use mathlib.Core.Path.{_≡_, refl}
 use mathlib.Core.Bool.{Bool, true, false, _&&_, cond}
 use mathlib.Core.List.{List}
-use Prim.Native.Nat.{ℕ, _+_, _*_, _≤_}
+use Prim.Native.Nat.{ℕ, _+_, _*_, _/_, _≤_}
 use native.Mathlib.Omega.{arith}
 use borrow.Author.Tests.{leb-true}
 use lib.Dec.{T, leb}
@@ -13,28 +13,30 @@ use Rattle.whole.specs.Numbers.{liesIn}
 use Rattle.whole.specs.Signed.{signed, add-is, times-is, abs-is, nonneg-of}
 use Rattle.whole.specs.Truth.{left-of, right-of, six-of, lies-low, lies-high}
 use Rattle.limits.specs.Limits.{same, isBlock, isPel}
+use Rattle.limits.specs.Sizes.{wordsPerRecord, bytesPerRecord}
+use Rattle.little_endian.specs.WordsRead.{words-long as all-long}
 use Rattle.plan_file.specs.declared.Trailer.{Trailer}
 use Rattle.plan_file.specs.declared.Head.{Head}
 use Rattle.plan_file.specs.declared.Plan.the-variants as plan
-use Rattle.plan_file.specs.PlanFile.{lengthsHold, trailerHolds, trailerOf, isPlanFile, wideFile, headOf, planOf}
+use Rattle.plan_file.specs.PlanFile.{wordsOf, lengthsHold, trailerHolds, trailerOf, isPlanFile, wideFile, headOf, planOf}
 
 pub record Served (t : Trailer) (bytes : ℕ) : Type 0 where
   pub enough : 32 ≤ bytes
   pub most : bytes ≤ 65536
-  pub counted : 48 * natAbs (t .count) + 32 ≡ bytes
+  pub counted : bytesPerRecord * natAbs (t .count) + 32 ≡ bytes
   pub natural : T (nonNeg (t .count))
   pub radius-lies : liesIn (pos 0) (pos 3) (t .radius) ≡ true
   pub block-in : isBlock (t .width) (t .height) ≡ true
   pub pel-in : isPel (t .pel) ≡ true
 
 pub record Counted (count : ℤ) (bytes : ℕ) : Type 0 where
-  pub long : 48 * natAbs count + 32 ≡ bytes
+  pub long : bytesPerRecord * natAbs count + 32 ≡ bytes
   pub natural : T (nonNeg count)
 
 pub lengths-say : (back count : ℤ) (bytes : ℕ) → 32 ≤ bytes → lengthsHold back count bytes ≡ true → Counted count bytes
 lengths-say back count bytes enough e =
     let x = back +ℤ pos 32 in
-    let y = count *ℤ pos 48 in
+    let y = count *ℤ pos bytesPerRecord in
     let ends = left-of (same x (pos bytes)) (same back y) e in
     let begins = right-of (same x (pos bytes)) (same back y) e in
     let a = lies-low x x (pos bytes) ends in
@@ -42,8 +44,8 @@ lengths-say back count bytes enough e =
     let c = lies-low back back y begins in
     let d = lies-high back back y begins in
     record {
-      long = omega (signed, add-is back (pos 32), times-is count 48, abs-is count);
-      natural = nonneg-of count (omega (signed, add-is back (pos 32), times-is count 48));
+      long = omega (signed, add-is back (pos 32), times-is count bytesPerRecord, abs-is count);
+      natural = nonneg-of count (omega (signed, add-is back (pos 32), times-is count bytesPerRecord));
     }
 
 -- the trailer's rules, one by one
@@ -74,6 +76,13 @@ served file e =
       block-in = says .1;
       pel-in = says .2;
     }
+
+-- ---- its words: as many as it has, and so every record that it counts
+pub words-long : (file : List ℕ) → length (wordsOf file) ≡ length file / 4
+words-long file = all-long file (length file / 4)
+
+pub records-held : (file : List ℕ) → isPlanFile file ≡ true → wordsPerRecord * natAbs (trailerOf file .count) ≤ length (wordsOf file)
+records-held file e = omega (arith, words-long file, served file e .counted)
 
 -- ---- the three answers
 module _ (file : List ℕ) where

@@ -8,6 +8,7 @@ use native.Mathlib.Omega.{arith}
 use lib.IntN.{ℤ, pos}
 use lib.ListN.{getD, length}
 use lib.Seq.{getD-append-add}
+use Rattle.limits.specs.Sizes.{wordsPerRecord}
 use Rattle.whole.specs.Signed.{lt-or-ge}
 use Rattle.whole.specs.Truth.{left-of, right-of}
 use Rattle.records.specs.declared.Record.{Record}
@@ -46,7 +47,8 @@ module _ (s : Settings) (order vectors : List ℤ) where
       recordAt (wordsUpto s order vectors i ++ wordList (turnOf s order vectors i .words) ++ tail) i ≡ planned i
   unfolding recordAt turnAt
   last-read i tail fits =
-      ap recordOf (words-read (wordsUpto s order vectors i) (recordWords (planned i)) tail (12 * i) (words-long s order vectors i)) ∙ back (planned i) fits
+      ap recordOf (words-read (wordsUpto s order vectors i) (recordWords (planned i)) tail (wordsPerRecord * i) (words-long s order vectors i))
+      ∙ back (planned i) fits
 
   pub record-read : (n i : ℕ) (tail : List ℤ) → i < n → allFit s order vectors n ≡ true → recordAt (wordsUpto s order vectors n ++ tail) i ≡ planned i
   unfolding wordsUpto allFit turnAt

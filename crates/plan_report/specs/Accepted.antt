@@ -5,7 +5,7 @@ use mathlib.Core.List.{List}
 use Prim.Native.Nat.{ℕ}
 use lib.ListN.{length}
 use Rattle.plan_file.specs.PlanFile.{isPlanFile, wideFile, headOf}
-use Rattle.plan_file.specs.Report.{headText, lineOf}
+use Rattle.plan_lines.specs.Report.{headText, lineOf}
 
 pub record Accepted (file : List ℕ) : Type 0 where
   pub holds : isPlanFile file ≡ true

@@ -20,7 +20,7 @@ fn head_bytes(file: &[u8], line: &mut [u8]) -> usize
     requires { ⌜ Accepted (now file) × (57 ≤ length (now line)) ⌝ }
     ensures { λ r. ⌜ (r ≡ headLength (now (file .entry))) × (r ≤ 57) ⌝ }
 {
-    let answer = plan_file::report_head(file, line);
+    let answer = plan_lines::report_head(file, line);
     let Written::Length(bytes) = answer else {
         return 0;
     };
@@ -40,7 +40,7 @@ fn line_bytes(file: &[u8], number: usize, line: &mut [u8]) -> usize
     requires { ⌜ Accepted (now file) × ((number < natAbs (trailerOf (now file) .count)) × (131 ≤ length (now line))) ⌝ }
     ensures { λ r. ⌜ (r ≡ lineLength (now (file .entry)) number) × (r ≤ 131) ⌝ }
 {
-    let answer = plan_file::report_line(file, number, line);
+    let answer = plan_lines::report_line(file, number, line);
     let Written::Length(bytes) = answer else {
         return 0;
     };

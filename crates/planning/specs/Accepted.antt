@@ -11,7 +11,8 @@ use lib.Dec.{eqb, leb, lit<}
 use lib.IntN.{ℤ, pos, negsuc, natAbs, _+ℤ_, _-ℤ_, _*ℤ_}
 use lib.ListN.{length, getD}
 use lib.Signed.{ltZ, leZ, shrZ, _≤ℤ_, _<ℤ_}
-use Rattle.limits.specs.Ranges.{pel-within, same-is}
+use Rattle.limits.specs.Sizes.{wordsPerRecord}
+use Rattle.limits.specs.Ranges.{pel-within, same-is, lies, shifted-least}
 use Rattle.whole.specs.Numbers.{liesIn, fitsI16}
 use Rattle.whole.specs.Signed.{signed, abs-is}
 use Rattle.whole.specs.Truth.{left-of, right-of, either-of, lies-low, lies-high, three-of, four-of, five-of, six-of}
@@ -27,11 +28,13 @@ use Rattle.score.specs.Diagonal.{frameFits, diagonalOf, diagonalAnswer, answerN
 use Rattle.plane.specs.declared.Place.{Place}
 use Rattle.plane.specs.Places.{limitsHold, lastEnd, keepsLength}
 use Rattle.plane.specs.Offsets.{accepted-placed}
-use Rattle.block.specs.declared.Sides.{Sides}
+use Rattle.planes.specs.declared.Sides.{Sides}
 use Rattle.block.specs.declared.Settings.{Settings}
-use Rattle.block.specs.Asked.{Along, Lies}
+use Rattle.block.specs.Asked.{Along}
 use Rattle.passes.specs.Fold.{indexAt, blockAt, allFit}
 use Rattle.passes.specs.Asked.{Served}
+use Rattle.planes.specs.Planes.{planesHold, holds3}
+use Rattle.planes.specs.Lying.{three-lie}
 use Rattle.planning.specs.declared.Made.{Made}
 use Rattle.planning.specs.declared.Planned.the-variants.{Done, Refused}
 use Rattle.planning.specs.Planned.{answered}
@@ -40,24 +43,14 @@ use Rattle.planning.specs.Refusals.{
   holds1,
   axisHolds,
   sidesHold,
-  chromaHolds,
-  planesHold,
   holds2,
   vectorFits,
   vectorsFit,
-  holds3,
   entryHolds,
   orderHolds,
   hasRoom,
   refusalOf,
 }
-
--- ---- a number from least to greatest, both ways of saying it
-lies : (least greatest z : ℤ) → liesIn least greatest z ≡ true → (least ≤ℤ z) × (z ≤ℤ greatest)
-lies least greatest z e =
-    let low = lies-low least greatest z e in
-    let high = lies-high least greatest z e in
-    (omega signed, omega signed)
 
 -- ---- "Block 8x8, 16x8 or 16x16": each side is from 8 to 16
 pub record Sided (side : ℤ) : Type 0 where
@@ -115,36 +108,13 @@ along a s low high =
       ends = a .ends;
     }
 
--- ---- the planes
-pub shifted-least : (z s : ℤ) → pos 2 ≤ℤ z → z ≤ℤ pos 16384 → (pos 1 ≤ℤ shiftedBy z s) × (shiftedBy z s ≤ℤ pos 16384)
-shifted-least z s low high = by (ltZ s (pos 1))
-  where
-    by : (t : Bool) → (pos 1 ≤ℤ cond t z (shrZ z 2)) × (cond t z (shrZ z 2) ≤ℤ pos 16384)
-    by true = (omega signed, omega signed)
-    by false = (
-      omega (signed, floor-low {m = 2} (lit< tt) z, floor-high {m = 2} (lit< tt) z),
-      omega
-          (signed, floor-low {m = 2} (lit< tt) z, floor-high {m = 2} (lit< tt) z),
-    )
-
-ends-in : (p : Place) (n : ℕ) → keepsLength p n ≡ true → lastEnd p ≤ℤ pos 1073741823
-ends-in p n e =
-    let short = leb-true n greatestLength (left-of (isLength n) (leZ (lastEnd p) (pos n)) e) in
-    let end = right-of (isLength n) (leZ (lastEnd p) (pos n)) e in
-    omega signed
-
-lying : (p : Place) (n : ℕ) {width height : ℤ} → limitsHold p ≡ true → keepsLength p n ≡ true → p .width ≡ width → p .height ≡ height →
-    pos 1 ≤ℤ width → pos 1 ≤ℤ height → height ≤ℤ pos 16384 → Lies p width height
-lying p n {width} {height} limits kept w h wide tall low =
-    record {
-      placed = accepted-placed p n limits kept (subst (λ (z : ℤ). pos 1 ≤ℤ z) (sym w) wide) (subst (λ (z : ℤ). pos 1 ≤ℤ z) (sym h) tall)
-          (subst (λ (z : ℤ). z ≤ℤ pos 16384) (sym h) low);
-      end = ends-in p n kept;
-      width-is = w;
-      height-is = h;
-    }
-
 -- ---- the settings
+joined : (z : ℤ) → pos 2 ≤ℤ z → z ≤ℤ pos 16384 → isFrameSide z ≡ true
+joined z low high =
+    let a : leZ (pos 2) z ≡ true = omega signed in
+    let b : leZ z (pos 16384) ≡ true = omega signed in
+    rw (a, b)
+
 pub record Set (s : Settings) : Type 0 where
   pub across : Axes (s .grid .x) (s .step .x) (s .block .x) (s .planes .luma .width)
   pub down : Axes (s .grid .y) (s .step .y) (s .block .y) (s .planes .luma .height)
@@ -233,7 +203,7 @@ index-below {s} {order} {i} k p =
 pub served : (s : Settings) (order vectors : List ℤ) (luma u v : ℕ) → holds1 s (length order) ≡ true → holds2 s (length vectors) ≡ true →
     vectorsFit vectors (blockCount (s .grid)) ≡ true → holds3 (s .planes) luma u v ≡ true → orderHolds (s .grid) order (blockCount (s .grid)) ≡ true →
     Served s order vectors (blockCount (s .grid))
-unfolding planesHold chromaHolds holds3 vectorFits blockAt
+unfolding vectorFits blockAt
 served s order vectors luma u v e₁ e₂ e₂′ e₃ e₄ i l =
     let k = settings s (length order) (length vectors) e₁ e₂ in
     let p = s .planes in
@@ -247,17 +217,10 @@ served s order vectors luma u v e₁ e₂ e₂′ e₃ e₄ i l =
     let fit = each-passes (vectorFits vectors) (blockCount (s .grid)) n e₂′ m in
     let px = lies (negsuc 32767) (pos 32767) vx (left-of (fitsI16 vx) (fitsI16 vy) fit) in
     let py = lies (negsuc 32767) (pos 32767) vy (right-of (fitsI16 vx) (fitsI16 vy) fit) in
-    let t = five-of (limitsHold (p .luma)) (limitsHold (p .u)) (limitsHold (p .v)) (chromaHolds (p .luma) (s .shift) (p .u))
-    (chromaHolds (p .luma) (s .shift) (p .v)) (k .planes) in
-    let lengths = three-of (keepsLength (p .luma) luma) (keepsLength (p .u) u) (keepsLength (p .v) v) e₃ in
-    let width = p .luma .width in
-    let height = p .luma .height in
     let fx = k .across in
     let fy = k .down in
-    let cw = shiftedBy width (s .shift .x) in
-    let ch = shiftedBy height (s .shift .y) in
-    let sw = shifted-least width (s .shift .x) (fx .frame-least) (fx .frame-most) in
-    let sh = shifted-least height (s .shift .y) (fy .frame-least) (fy .frame-most) in
+    let three = three-lie p (s .shift) luma u v (joined (p .luma .width) (fx .frame-least) (fx .frame-most))
+    (joined (p .luma .height) (fy .frame-least) (fy .frame-most)) (k .planes) e₃ in
     record {
       listed =
           let a = listed-is s (length order) e₁ in
@@ -279,17 +242,9 @@ served s order vectors luma u v e₁ e₂ e₂′ e₃ e₄ i l =
             pel = let q = pel-within (s .level .pel) (k .pel) in let low = q .low in let high = q .high in omega arith;
             px = let low = px .0 in let high = px .1 in omega signed;
             py = let low = py .0 in let high = py .1 in omega signed;
-            luma = lying (p .luma) luma (t .0) (lengths .0) refl refl (omega signed) (omega signed) (fy .frame-most);
-            u =
-                lying (p .u) u (t .1) (lengths .1)
-                (same-is cw (p .u .width) (left-of (same cw (p .u .width)) (same ch (p .u .height)) (t .3)))
-                (same-is ch (p .u .height) (right-of (same cw (p .u .width)) (same ch (p .u .height)) (t .3)))
-                (sw .0) (sh .0) (sh .1);
-            v =
-                lying (p .v) v (t .2) (lengths .2)
-                (same-is cw (p .v .width) (left-of (same cw (p .v .width)) (same ch (p .v .height)) (t .4)))
-                (same-is ch (p .v .height) (right-of (same cw (p .v .width)) (same ch (p .v .height)) (t .4)))
-                (sw .0) (sh .0) (sh .1);
+            luma = three .luma;
+            u = three .u;
+            v = three .v;
           };
     }
 
@@ -306,17 +261,11 @@ framed s listed held e f =
     let w : isFrameSide (s .planes .luma .width) ≡ true = joined (s .planes .luma .width) (x .frame-least) (x .frame-most) in
     let h : isFrameSide (s .planes .luma .height) ≡ true = joined (s .planes .luma .height) (y .frame-least) (y .frame-most) in
     record { search = k .search; frame = rw (w, h) (k .pel) }
-  where
-    joined : (z : ℤ) → pos 2 ≤ℤ z → z ≤ℤ pos 16384 → isFrameSide z ≡ true
-    joined z low high =
-        let a : leZ (pos 2) z ≡ true = omega signed in
-        let b : leZ z (pos 16384) ≡ true = omega signed in
-        rw (a, b)
 
 -- ---- the chain: 0 where every test holds
 pub record Accepted (s : Settings) (order vectors : List ℤ) (words indices : ℕ) : Type 0 where
   pub serves : Served s order vectors (blockCount (s .grid))
-  pub room : 12 * blockCount (s .grid) ≤ words
+  pub room : wordsPerRecord * blockCount (s .grid) ≤ words
   pub rows : blockCount (s .grid) ≤ indices
   pub framed : Framed s
   pub fit : allFit s order vectors (blockCount (s .grid)) ≡ true
@@ -337,8 +286,8 @@ accepted s order vectors luma u v words indices e =
     let two = left-of (holds2 s (length vectors)) (vectorsFit vectors n) (t₂ .0) in
     record {
       serves = served s order vectors luma u v (t₁ .0) two (right-of (holds2 s (length vectors)) (vectorsFit vectors n) (t₂ .0)) (t₃ .0) (t₄ .0);
-      room = leb-true (12 * n) words (left-of (leb (12 * n) words) (leb n indices) (t₅ .0));
-      rows = leb-true n indices (right-of (leb (12 * n) words) (leb n indices) (t₅ .0));
+      room = leb-true (wordsPerRecord * n) words (left-of (leb (wordsPerRecord * n) words) (leb n indices) (t₅ .0));
+      rows = leb-true n indices (right-of (leb (wordsPerRecord * n) words) (leb n indices) (t₅ .0));
       framed = framed s (length order) (length vectors) (t₁ .0) two;
       fit = t₆ .0;
       set = settings s (length order) (length vectors) (t₁ .0) two;

@@ -3,6 +3,7 @@ use mathlib.Core.List.{List, _++_}
 use Prim.Native.Nat.{ℕ, zero, suc, _*_}
 use lib.IntN.{ℤ}
 use lib.ListN.{length, drop}
+use Rattle.limits.specs.Sizes.{wordsPerRecord}
 use Rattle.limits.specs.Limits.{radiusOf}
 use Rattle.limits.specs.Refusals.{kept}
 use Rattle.window.specs.Windows.{slotsOf}
@@ -38,7 +39,7 @@ module _ (s : Settings) (order vectors : List ℤ) (luma u v : ℕ) where
   unfoldable pub planRecords : List ℤ → ℕ → List ℤ
   planRecords records indices =
       let n = blockCount (s .grid) in
-      kept (refusalOf s order vectors luma u v (length records) indices) (wordsUpto s order vectors n ++ drop (12 * n) records) records
+      kept (refusalOf s order vectors luma u v (length records) indices) (wordsUpto s order vectors n ++ drop (wordsPerRecord * n) records) records
 
   -- an index a block of the order
   unfoldable pub planIndices : ℕ → List ℤ → List ℤ

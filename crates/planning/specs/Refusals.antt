@@ -7,13 +7,15 @@ use lib.IntN.{ℤ, pos, negsuc, _+ℤ_, _-ℤ_, _*ℤ_}
 use lib.ListN.{length, getD}
 use lib.Signed.{ltZ, leZ}
 use Rattle.whole.specs.Numbers.{liesIn, fitsI16}
+use Rattle.limits.specs.Sizes.{wordsPerRecord}
 use Rattle.limits.specs.Limits.{same, isBlock, blocksOf, isGridSide, isStep, isFrameSide, isPel, areShifts, shiftedBy}
 use Rattle.limits.specs.Refusals.{first, anyUpto}
 use Rattle.plane.specs.declared.Place.{Place}
 use Rattle.plane.specs.Places.{limitsHold, keepsLength}
-use Rattle.block.specs.declared.Sides.{Sides}
-use Rattle.block.specs.declared.Planes.{Planes}
+use Rattle.planes.specs.declared.Sides.{Sides}
+use Rattle.planes.specs.declared.Planes.{Planes}
 use Rattle.block.specs.declared.Settings.{Settings}
+use Rattle.planes.specs.Planes.{planesHold, holds3}
 use Rattle.passes.specs.Fold.{allFit}
 
 -- the blocks of a grid
@@ -42,14 +44,6 @@ sidesHold s =
     axisHolds (s .grid .x) (s .step .x) (s .block .x) (s .planes .luma .width)
     && axisHolds (s .grid .y) (s .step .y) (s .block .y) (s .planes .luma .height)
 
--- "chroma sides are the luma sides shifted right"
-unfoldable pub chromaHolds : Place → Sides → Place → Bool
-chromaHolds luma shift place = same (shiftedBy (luma .width) (shift .x)) (place .width) && same (shiftedBy (luma .height) (shift .y)) (place .height)
-
-unfoldable pub planesHold : Planes → Sides → Bool
-planesHold p shift =
-    limitsHold (p .luma) && limitsHold (p .u) && limitsHold (p .v) && chromaHolds (p .luma) shift (p .u) && chromaHolds (p .luma) shift (p .v)
-
 -- "Pel 1, 2 or 4. Chroma shifts (0,0), (1,0) or (1,1)". The vectors are flat, three numbers a block.
 unfoldable pub holds2 : Settings → ℕ → Bool
 holds2 s held =
@@ -61,10 +55,6 @@ vectorFits vectors i = fitsI16 (getD vectors (3 * i) (pos 0)) && fitsI16 (getD v
 
 abbrev pub vectorsFit : List ℤ → ℕ → Bool
 vectorsFit vectors n = not (anyUpto (λ i. not (vectorFits vectors i)) n)
-
--- ---- "3: a plane breaks its length rule"
-unfoldable pub holds3 : Planes → ℕ → ℕ → ℕ → Bool
-holds3 p luma u v = keepsLength (p .luma) luma && keepsLength (p .u) u && keepsLength (p .v) v
 
 -- ---- "4: an order entry .. outside the grid given": none is
 unfoldable pub entryHolds : Sides → List ℤ → ℕ → Bool
@@ -79,7 +69,7 @@ orderHolds grid order n = not (anyUpto (λ i. not (entryHolds grid order i)) n)
 
 -- ---- "5: a lent output is too short": 12 words and an index a block
 abbrev pub hasRoom : ℕ → ℕ → ℕ → Bool
-hasRoom n words indices = leb (12 * n) words && leb n indices
+hasRoom n words indices = leb (wordsPerRecord * n) words && leb n indices
 
 -- ---- "If several apply, the lowest is given". 6: "in planning .., a record doesn't fit"
 unfoldable pub refusalOf : Settings → List ℤ → List ℤ → ℕ → ℕ → ℕ → ℕ → ℕ → ℕ

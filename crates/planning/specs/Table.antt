@@ -9,7 +9,8 @@ use lib.ListN.{length}
 use Rattle.limits.specs.Refusals.{first}
 use Rattle.block.specs.declared.Settings.{Settings}
 use Rattle.passes.specs.Fold.{allFit}
-use Rattle.planning.specs.Refusals.{blockCount, holds1, holds2, vectorsFit, holds3, orderHolds, hasRoom, refusalOf}
+use Rattle.planes.specs.Planes.{holds3}
+use Rattle.planning.specs.Refusals.{blockCount, holds1, holds2, vectorsFit, orderHolds, hasRoom, refusalOf}
 
 -- a number, by the six tests in the table's order: where each of them refuses
 pub record Exactly (one two three four five six : Bool) (number : ℕ) : Type 0 where

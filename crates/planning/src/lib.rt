@@ -1,13 +1,11 @@
 // Planning: the refusals in the table's order, and then the two passes over the order.
-use block::Planes;
 use block::Settings;
-use block::Sides;
-use plane::Place;
+use planes::Sides;
 use score::Answer;
 ghost use mathlib.Core.Path.{_≡_};
 ghost use Prim.Native.Nat.{_+_, _*_, _≤_};
 ghost use lib.ListN.{length};
-ghost use Rattle.planning.specs.Refusals.{blockCount, holds1, axisHolds, sidesHold, chromaHolds, planesHold, holds2, vectorFits, vectorsFit, holds3, entryHolds, orderHolds, hasRoom, refusalOf};
+ghost use Rattle.planning.specs.Refusals.{blockCount, holds1, axisHolds, sidesHold, holds2, vectorFits, vectorsFit, entryHolds, orderHolds, hasRoom, refusalOf};
 ghost use Rattle.planning.specs.Planned.{madeOf, planAnswer, planRecords, planIndices};
 ghost use Rattle.planning.specs.Accepted.{Framed};
 
@@ -82,34 +80,6 @@ fn sides_hold(s: Settings) -> bool
     axis_holds(nx, step_x, w, width) & axis_holds(ny, step_y, h, height)
 }
 
-// A chroma plane's sides are luma's, shifted.
-fn chroma_holds(luma: Place, shift: Sides, place: Place) -> bool
-    ensures { λ r. ⌜ r ≡ chromaHolds luma shift place ⌝ }
-{
-    let width = luma.width;
-    let height = luma.height;
-    let x = shift.x;
-    let y = shift.y;
-    let w = limits::shifted(width, x);
-    let h = limits::shifted(height, y);
-    let chroma_w = place.width;
-    let chroma_h = place.height;
-    whole::within(chroma_w, w, w) & whole::within(chroma_h, h, h)
-}
-
-pub fn planes_hold(planes: Planes, shift: Sides) -> bool
-    ensures { λ r. ⌜ r ≡ planesHold planes shift ⌝ }
-{
-    let luma = planes.luma;
-    let u = planes.u;
-    let v = planes.v;
-    plane::within_limits(luma)
-        & plane::within_limits(u)
-        & plane::within_limits(v)
-        & chroma_holds(luma, shift, u)
-        & chroma_holds(luma, shift, v)
-}
-
 fn holds_2(s: Settings, held: usize) -> bool
     ensures { λ r. ⌜ r ≡ holds2 s held ⌝ }
 {
@@ -124,7 +94,7 @@ fn holds_2(s: Settings, held: usize) -> bool
     sides_hold(s)
         & limits::is_pel(pel)
         & limits::are_shifts(x, y)
-        & planes_hold(planes, shift)
+        & planes::planes_hold(planes, shift)
         & (held == 3 * n)
 }
 
@@ -148,17 +118,6 @@ fn vectors_fit(vectors: &[i32], n: usize) -> bool
         i += 1;
     }
     all
-}
-
-pub fn holds_3(planes: Planes, luma: &[u8], u: &[u8], v: &[u8]) -> bool
-    ensures { λ r. ⌜ r ≡ holds3 planes (length (now (luma .entry))) (length (now (u .entry))) (length (now (v .entry))) ⌝ }
-{
-    let place_luma = planes.luma;
-    let place_u = planes.u;
-    let place_v = planes.v;
-    plane_view::length_kept(luma, place_luma)
-        & plane_view::length_kept(u, place_u)
-        & plane_view::length_kept(v, place_v)
 }
 
 fn entry_holds(grid: Sides, order: &[i32], i: usize) -> bool
@@ -189,7 +148,7 @@ fn has_room(n: usize, words: usize, indices: usize) -> bool
     requires { ⌜ n ≤ 4194304 ⌝ }
     ensures { λ r. ⌜ r ≡ hasRoom n words indices ⌝ }
 {
-    (12 * n <= words) & (n <= indices)
+    (limits::WORDS_PER_RECORD * n <= words) & (n <= indices)
 }
 
 // The lowest number that applies, or 0. Each test may lean on those before it.
@@ -217,7 +176,7 @@ fn refusal(
     if !vectors_fit(vectors, n) {
         return 2;
     }
-    if !holds_3(planes, luma, u, v) {
+    if !planes::holds_3(planes, luma, u, v) {
         return 3;
     }
     if !order_holds(grid, order, n) {

@@ -4,6 +4,7 @@ use mathlib.Core.List.{List}
 use Prim.Native.Nat.{ℕ, _+_, _*_}
 use lib.IntN.{ℤ, pos}
 use lib.ListN.{getD}
+use Rattle.limits.specs.Sizes.{wordsPerRecord}
 use Rattle.limits.specs.Refusals.{anyUpto}
 use Rattle.records.specs.declared.Record.{Record}
 use Rattle.records.specs.declared.Words.{Words}
@@ -28,7 +29,7 @@ wordsFrom records at =
     }
 
 unfoldable pub recordAt : List ℤ → ℕ → Record
-recordAt records i = recordOf (wordsFrom records (12 * i))
+recordAt records i = recordOf (wordsFrom records (wordsPerRecord * i))
 
 -- "7: a BAD record's window has both sides non-empty and one over 2 x radius + 1"
 abbrev pub anyWide : ℤ → List ℤ → ℕ → Bool

@@ -5,12 +5,13 @@ ghost use mathlib.Core.Path.{_≡_};
 ghost use mathlib.Core.Bool.{true};
 ghost use Prim.Native.Nat.{_+_, _*_, _≤_};
 ghost use lib.ListN.{length};
+ghost use Rattle.limits.specs.Sizes.{wordsPerRecord};
 ghost use Rattle.records.specs.Packing.{pairsFit};
 ghost use Rattle.records.specs.RoundTrip.{Held};
 ghost use Rattle.record_slice.specs.RecordSlice.{wordsFrom, recordAt, anyWide};
 
 fn words_from(records: &[i32], at: usize) -> Words
-    requires { ⌜ at + 12 ≤ length (now records) ⌝ }
+    requires { ⌜ at + wordsPerRecord ≤ length (now records) ⌝ }
     ensures { λ r. ⌜ r ≡ wordsFrom (now (records .entry)) at ⌝ }
     ensures { λ r. ⌜ Held r ⌝ }
 {
@@ -43,15 +44,15 @@ fn words_from(records: &[i32], at: usize) -> Words
 }
 
 pub fn record_at(records: &[i32], i: usize) -> Record
-    requires { ⌜ 12 * i + 12 ≤ length (now records) ⌝ }
+    requires { ⌜ wordsPerRecord * i + wordsPerRecord ≤ length (now records) ⌝ }
     ensures { λ r. ⌜ r ≡ recordAt (now (records .entry)) i ⌝ }
     ensures { λ r. ⌜ pairsFit r ≡ true ⌝ }
 {
-    records::unpack_record(words_from(records, 12 * i))
+    records::unpack_record(words_from(records, limits::WORDS_PER_RECORD * i))
 }
 
 pub fn any_wide(records: &[i32], radius: i32, n: usize) -> bool
-    requires { ⌜ 12 * n ≤ length (now records) ⌝ }
+    requires { ⌜ wordsPerRecord * n ≤ length (now records) ⌝ }
     ensures { λ r. ⌜ r ≡ anyWide radius (now (records .entry)) n ⌝ }
 {
     let mut wide = false;

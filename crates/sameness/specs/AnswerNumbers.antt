@@ -23,7 +23,7 @@ use Rattle.report_text.specs.declared.Written.the-variants as written
 use Rattle.report_text.specs.Putting.{lentAnswer}
 use Rattle.plan_file.specs.declared.Plan.the-variants as plan
 use Rattle.plan_file.specs.PlanFile as file
-use Rattle.plan_file.specs.Report.{answered, headNumber, headAnswer, lineNumber, lineAnswer, writtenNumber}
+use Rattle.plan_lines.specs.Report.{answered, headNumber, headAnswer, lineNumber, lineAnswer, writtenNumber}
 
 -- the number of an answer that is done where a test holds, and refused with n where it does not
 by-test : {X : Type 0} (number : X → ℕ) (t : Bool) {a b : X} {n : ℕ} → number a ≡ 0 → number b ≡ n → number (cond t a b) ≡ first (not t) n 0

@@ -32,6 +32,7 @@ use Rattle.score.proofs.packed_score as packed-score
 use Rattle.planning.proofs.plan as plan
 use Rattle.evaluation.proofs.evaluate as evaluate
 use Rattle.zero_law.proofs.evaluate_knowing as evaluate-knowing
+use Rattle.little_endian.proofs.words_into as words-into
 use Rattle.little_endian.proofs.put_word as put-word
 use Rattle.passes.proofs.write_all as write-all
 use Rattle.finishing.proofs.finish as finish
@@ -41,8 +42,10 @@ use Rattle.report_text.proofs.put as put
 use Rattle.report_text.proofs.put_field as put-field
 use Rattle.report_text.proofs.put_two as put-two
 use Rattle.plan_file.proofs.check_plan_file as check-plan-file
-use Rattle.plan_file.proofs.report_head as report-head
-use Rattle.plan_file.proofs.report_line as report-line
+use Rattle.plan_lines.proofs.report_head as report-head
+use Rattle.plan_lines.proofs.report_line as report-line
+use Rattle.answer_bytes.proofs.give as give
+use Rattle.answer_bytes.proofs.block_cost as block-cost
 use Rattle.hirupango.proofs.hirupango_block_cost as hirupango-block-cost
 use Rattle.hirupango.proofs.hirupango_packed_score as hirupango-packed-score
 use Rattle.hirupango.proofs.hirupango_diagonal as hirupango-diagonal
@@ -180,7 +183,7 @@ module _ {M : Type 1} (𝓤 : URA M) where
     pub lay-same : Same lay.ended (lay.clauses 𝓤 H A mem run) (λ κs r e. r & now (e .0))
     lay-same κs a g r s e f = two
 
-    -- ---- plan_file
+    -- ---- plan_file and plan_lines
     pub check-plan-file-same : Same check-plan-file.ended (check-plan-file.clauses 𝓤 H A mem run) (λ κs r e. r)
     check-plan-file-same κs a g r s e f = one
 
@@ -189,6 +192,13 @@ module _ {M : Type 1} (𝓤 : URA M) where
 
     pub report-line-same : Same report-line.ended (report-line.clauses 𝓤 H A mem run) (λ κs r e. r & now (e .1 .1 .0))
     report-line-same κs a g r s e f = two
+
+    -- ---- answer_bytes
+    pub give-same : Same give.ended (give.clauses 𝓤 H A mem run) (λ κs r e. r & now (e .1 .1 .0))
+    give-same κs a g r s e f = two
+
+    pub block-cost-same : Same block-cost.ended (block-cost.clauses 𝓤 H A mem run) (λ κs r e. r & now (e .1 .1 .1 .1 .1 .1 .1 .0))
+    block-cost-same κs a g r s e f = two
 
     -- ---- hirupango
     pub hirupango-block-cost-same : Same hirupango-block-cost.ended (hirupango-block-cost.clauses 𝓤 H A mem run) (λ κs r e. r & now (e .1 .1 .1 .1 .1 .1 .1 .0))
@@ -223,6 +233,9 @@ module _ {M : Type 1} (𝓤 : URA M) where
     evaluate-knowing-same κs a g r s e f = two-beside
 
     -- ---- functions that are no entries and write lent memory
+    pub words-into-same : Same words-into.ended (words-into.clauses 𝓤 H A mem run) (λ κs r e. now (e .1 .0))
+    words-into-same κs a g r s e f = one
+
     pub put-word-same : Same put-word.ended (put-word.clauses 𝓤 H A mem run) (λ κs r e. now (e .0))
     put-word-same κs a g r s e f = one
 

@@ -5,3 +5,4 @@ pub mod Floor
 pub mod Wrapping
 pub mod Root
 pub mod Interval
+pub mod Lists

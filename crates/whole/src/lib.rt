@@ -1,6 +1,7 @@
-// Whole numbers: wrapping at 32 bits, the lesser and the greater of two, the whole root.
+// Whole numbers: wrapping at 32 bits, ranges, the lesser and the greater of two, one for a test that holds, the whole root.
 
 ghost use mathlib.Core.Path.{_≡_};
+ghost use mathlib.Core.Bool.{cond};
 ghost use lib.IntN.{_+ℤ_, _*ℤ_, natAbs};
 ghost use mir.Syntax.{w32};
 ghost use Rattle.whole.specs.Numbers.{wrapped, liesIn, fitsI16, lesserOf, greaterOf, rootOf};
@@ -58,6 +59,13 @@ pub fn greater(a: i32, b: i32) -> i32
     ensures { λ r. ⌜ r ≡ greaterOf a b ⌝ }
 {
     if a < b { b } else { a }
+}
+
+// 1 where a test holds, 0 where it does not: for counting.
+pub fn one_where(test: bool) -> usize
+    ensures { λ r. ⌜ r ≡ cond test 1 0 ⌝ }
+{
+    if test { 1 } else { 0 }
 }
 
 // The largest whole number whose square is at most n: twice the root of n / 4, or one more.

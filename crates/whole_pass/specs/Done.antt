@@ -12,13 +12,15 @@ use lib.ListN.{length}
 use lib.Signed.{leZ}
 use Rattle.whole.specs.Numbers.{liesIn}
 use Rattle.whole.specs.Truth.{left-of, right-of, four-of, five-of, six-of}
+use Rattle.limits.specs.Sizes.{wordsPerRecord, numbersPerBest}
 use Rattle.limits.specs.Limits.{isBlock, isFrameSide, isPel, areShifts, isStep, isGridSide}
 use Rattle.limits.specs.Refused.{let-through}
-use Rattle.block.specs.declared.Planes.{Planes}
+use Rattle.planes.specs.declared.Planes.{Planes}
 use Rattle.block.specs.declared.Settings.{Settings}
 use Rattle.passes.specs.Fold.{allFit, wordsUpto}
 use Rattle.passes.specs.FoldLaws.{words-long}
-use Rattle.planning.specs.Refusals.{blockCount, holds1, axisHolds, sidesHold, holds2, holds3, planesHold, vectorsFit, orderHolds, hasRoom, refusalOf}
+use Rattle.planes.specs.Planes.{planesHold, holds3}
+use Rattle.planning.specs.Refusals.{blockCount, holds1, axisHolds, sidesHold, holds2, vectorsFit, orderHolds, hasRoom, refusalOf}
 use Rattle.evaluation.specs.declared.Request.{Request}
 use Rattle.evaluation.specs.Refusals as evaluation
 use Rattle.evaluation.specs.Evaluated.{evaluateAnswer}
@@ -39,7 +41,7 @@ module _ (s : Settings) (measure : Bool) (pnew : ℤ) (reference : Planes) (orde
     (words indices : ℕ)
     (planned : refusalOf s order vectors (length luma) (length u) (length v) words indices ≡ 0)
     (referred : Referred s reference (length referenceLuma) (length referenceU) (length referenceV))
-    (room : ℕ) (enough : 4 * blockCount (s .grid) ≤ room) where
+    (room : ℕ) (enough : numbersPerBest * blockCount (s .grid) ≤ room) where
   abbrev q : Request
   q = requestOf s measure pnew reference
 
@@ -69,7 +71,8 @@ module _ (s : Settings) (measure : Bool) (pnew : ℤ) (reference : Planes) (orde
       let wide = frame-side (s .grid .x) (s .step .x) (s .block .x) (s .planes .luma .width) (left-of x y (b .0)) in
       let tall = frame-side (s .grid .y) (s .step .y) (s .block .y) (s .planes .luma .height) (right-of x y (b .0)) in
       let long = words-long s order vectors n in
-      let whole : eqb (length records % 12) 0 ≡ true = eq-eqb (length records % 12) 0 (omega arith) in
-      let fits : leb (4 * (length records / 12)) room ≡ true = le-leb (4 * (length records / 12)) room (omega arith) in
+      let whole : eqb (length records % wordsPerRecord) 0 ≡ true = eq-eqb (length records % wordsPerRecord) 0 (omega arith) in
+      let numbers = numbersPerBest * (length records / wordsPerRecord) in
+      let fits : leb numbers room ≡ true = le-leb numbers room (omega arith) in
       let narrow = none-wide s q order vectors n refl (t₆ .0) in
       rw (a .1, a .5, b .1, b .2, wide, tall, b .3, referred .alike, t₃ .0, referred .long, whole, fits, narrow)

@@ -7,13 +7,14 @@ use native.Mathlib.Omega.{arith}
 use lib.Dec.{eqb}
 use lib.IntN.{ℤ}
 use lib.ListN.{length}
+use Rattle.limits.specs.Sizes.{wordsPerRecord}
 use Rattle.limits.specs.Limits.{radiusOf}
 use Rattle.whole.specs.Signed.{holds}
 use Rattle.record_slice.specs.RecordSlice.{anyWide}
 use Rattle.block.specs.declared.Settings.{Settings}
 use Rattle.passes.specs.Fold.{allFit, wordsUpto}
 use Rattle.passes.specs.FoldLaws.{words-long}
-use Rattle.planning.specs.Refusals.{holds3}
+use Rattle.planes.specs.Planes.{holds3}
 use Rattle.evaluation.specs.declared.Request.{Request}
 use Rattle.evaluation.specs.Refusals.{holds1, holds2, hasRoom, refusalOf}
 use Rattle.evaluation.specs.Evaluated.{evaluateAnswer}
@@ -25,13 +26,13 @@ module _ (s : Settings) (q : Request) (order vectors : List ℤ) (n : ℕ) (same
   abbrev records : List ℤ
   records = wordsUpto s order vectors n
 
-  pub record-count : length records / 12 ≡ n
+  pub record-count : length records / wordsPerRecord ≡ n
   record-count = let long = words-long s order vectors n in omega arith
 
   radius-same : radiusOf (s .search .«search_param») ≡ radiusOf (q .«search_param»)
   radius-same = ap radiusOf (sym same)
 
-  pub none-wide : anyWide (radiusOf (q .«search_param»)) records (length records / 12) ≡ false
+  pub none-wide : anyWide (radiusOf (q .«search_param»)) records (length records / wordsPerRecord) ≡ false
   none-wide =
       let whole : records ++ [] ≡ records = append-nil records in
       ap (anyWide (radiusOf (q .«search_param»)) records) record-count

@@ -13,6 +13,7 @@ use lib.IntN.{ℤ, pos, natAbs, _*ℤ_}
 use lib.ListN.{length, getD}
 use lib.Signed.{ltZ, leZ, _≤ℤ_}
 use Rattle.evaluation.specs.BestsRead.{Reads, best-reads}
+use Rattle.limits.specs.Sizes.{numbersPerBest}
 use Rattle.limits.specs.Ranges.{at-each-pel}
 use Rattle.whole.specs.Numbers.{rootOf, fitsI16}
 use Rattle.whole.specs.Root.{root-is}
@@ -158,8 +159,9 @@ module _ (s : Settings) (q : Request) (order vectors : List ℤ) (luma u v refer
 
   not-5 : (asked : Bool) (room : ℕ) → (asked ≡ true → 2 * n ≤ room) → refused5 (s .grid .x) (s .grid .y) indices bests asked room ≡ false
   not-5 asked room h =
-      let bests-4 : eqb (length bests) (4 * length indices) ≡ true = eq-eqb (length bests) (4 * length indices)
-      (bests-long (taskOf q) records luma u v referenceLuma referenceU referenceV n ∙ ap (λ (m : ℕ). 4 * m) (sym (indices-long s order vectors n))) in
+      let bests-4 : eqb (length bests) (numbersPerBest * length indices) ≡ true = eq-eqb (length bests) (numbersPerBest * length indices)
+      (bests-long (taskOf q) records luma u v referenceLuma referenceU referenceV n
+      ∙ ap (λ (m : ℕ). numbersPerBest * m) (sym (indices-long s order vectors n))) in
       rw bests-4 (by asked refl)
     where
       by : (a : Bool) → asked ≡ a → (a && ltb room (2 * blocksOf (s .grid .x) (s .grid .y)) || false) ≡ false
@@ -168,8 +170,9 @@ module _ (s : Settings) (q : Request) (order vectors : List ℤ) (luma u v refer
 
   not-7 : refused7 indices bests ≡ false
   not-7 =
-      ap (λ (m : ℕ). anyUpto (λ j. isWild (getD bests (4 * j) (pos 0)) (getD bests (4 * j + 1) (pos 0))) m) (indices-long s order vectors n)
-      ∙ none-passes (λ j. isWild (getD bests (4 * j) (pos 0)) (getD bests (4 * j + 1) (pos 0))) n
+      ap (λ (m : ℕ). anyUpto (λ j. isWild (getD bests (numbersPerBest * j) (pos 0)) (getD bests (numbersPerBest * j + 1) (pos 0))) m)
+      (indices-long s order vectors n)
+      ∙ none-passes (λ j. isWild (getD bests (numbersPerBest * j) (pos 0)) (getD bests (numbersPerBest * j + 1) (pos 0))) n
       (λ i l.
       let tame = best-tame (taskOf q) (planned s order vectors i) luma u v referenceLuma referenceU referenceV (pairs-each i l) in
       let r = reads i l in

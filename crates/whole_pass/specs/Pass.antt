@@ -5,7 +5,7 @@ use mathlib.Core.List.{List}
 use Prim.Native.Nat.{ℕ}
 use lib.IntN.{ℤ}
 use Rattle.score.specs.Score.{outputWord, packedScore}
-use Rattle.block.specs.declared.Planes.{Planes}
+use Rattle.planes.specs.declared.Planes.{Planes}
 use Rattle.block.specs.declared.Settings.{Settings}
 use Rattle.best.specs.declared.Best.{Best}
 use Rattle.best.specs.Best.{bestOf}

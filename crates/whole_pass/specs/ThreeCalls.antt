@@ -9,8 +9,9 @@ use Prim.Native.Nat.{ℕ, _*_, _/_, _≤_}
 use lib.IntN.{ℤ}
 use lib.ListN.{length, take, drop}
 use lib.Seq.{take-at, drop-at}
+use Rattle.limits.specs.Sizes.{wordsPerRecord, numbersPerBest}
 use Rattle.limits.specs.Refused.{kept-done}
-use Rattle.block.specs.declared.Planes.{Planes}
+use Rattle.planes.specs.declared.Planes.{Planes}
 use Rattle.block.specs.declared.Settings.{Settings}
 use Rattle.passes.specs.Fold.{wordsUpto, indicesUpto}
 use Rattle.passes.specs.FoldLaws.{words-long, indices-long}
@@ -31,7 +32,7 @@ module _ (s : Settings) (measure : Bool) (pnew : ℤ) (reference : Planes) (orde
     (records indices bests : List ℤ)
     (planned : refusalOf s order vectors (length luma) (length u) (length v) (length records) (length indices) ≡ 0)
     (referred : Referred s reference (length referenceLuma) (length referenceU) (length referenceV))
-    (enough : 4 * blockCount (s .grid) ≤ length bests) where
+    (enough : numbersPerBest * blockCount (s .grid) ≤ length bests) where
   abbrev pub q : Request
   q = requestOf s measure pnew reference
 
@@ -48,7 +49,7 @@ module _ (s : Settings) (measure : Bool) (pnew : ℤ) (reference : Planes) (orde
   abbrev pub named : List ℤ
   named = planIndices s order vectors (length luma) (length u) (length v) (length records) indices
 
-  written-is : written ≡ wordsUpto s order vectors n ++ drop (12 * n) records
+  written-is : written ≡ wordsUpto s order vectors n ++ drop (wordsPerRecord * n) records
   unfolding planRecords
   written-is = kept-done _ _ records planned
 
@@ -56,11 +57,11 @@ module _ (s : Settings) (measure : Bool) (pnew : ℤ) (reference : Planes) (orde
   unfolding planIndices
   named-is = kept-done _ _ indices planned
 
-  pub records-are : take (12 * n) written ≡ wordsUpto s order vectors n
-  records-are = ap (take (12 * n)) written-is ∙ take-at (wordsUpto s order vectors n) _ (12 * n) (words-long s order vectors n)
+  pub records-are : take (wordsPerRecord * n) written ≡ wordsUpto s order vectors n
+  records-are = ap (take (wordsPerRecord * n)) written-is ∙ take-at (wordsUpto s order vectors n) _ (wordsPerRecord * n) (words-long s order vectors n)
 
-  pub records-tail : drop (12 * n) written ≡ drop (12 * n) records
-  records-tail = ap (drop (12 * n)) written-is ∙ drop-at (wordsUpto s order vectors n) _ (12 * n) (words-long s order vectors n)
+  pub records-tail : drop (wordsPerRecord * n) written ≡ drop (wordsPerRecord * n) records
+  records-tail = ap (drop (wordsPerRecord * n)) written-is ∙ drop-at (wordsUpto s order vectors n) _ (wordsPerRecord * n) (words-long s order vectors n)
 
   pub indices-are : take n named ≡ indicesUpto s order vectors n
   indices-are = ap (take n) named-is ∙ take-at (indicesUpto s order vectors n) _ n (indices-long s order vectors n)
@@ -69,50 +70,53 @@ module _ (s : Settings) (measure : Bool) (pnew : ℤ) (reference : Planes) (orde
   indices-tail = ap (drop n) named-is ∙ drop-at (indicesUpto s order vectors n) _ n (indices-long s order vectors n)
 
   -- ---- evaluating the words is done, and leaves four numbers a block, and then the tail
-  pub evaluated : evaluateAnswer q (take (12 * n) written) luma u v referenceLuma referenceU referenceV (length bests) ≡ 0
+  pub evaluated : evaluateAnswer q (take (wordsPerRecord * n) written) luma u v referenceLuma referenceU referenceV (length bests) ≡ 0
   evaluated =
       rw records-are
       (evaluation-done s measure pnew reference order vectors luma u v referenceLuma referenceU referenceV (length records) (length indices) planned referred
       (length bests) enough)
 
   abbrev pub found : List ℤ
-  found = evaluateBests q (take (12 * n) written) luma u v referenceLuma referenceU referenceV bests
+  found = evaluateBests q (take (wordsPerRecord * n) written) luma u v referenceLuma referenceU referenceV bests
 
   abbrev each : List ℤ
   each = bestsUpto (taskOf q) (wordsUpto s order vectors n) luma u v referenceLuma referenceU referenceV n
 
-  found-is : found ≡ each ++ drop (4 * n) bests
+  found-is : found ≡ each ++ drop (numbersPerBest * n) bests
   unfolding evaluateBests
   found-is =
       kept-done _ _ bests evaluated
-      ∙ ap (λ (w : List ℤ). bestsUpto (taskOf q) w luma u v referenceLuma referenceU referenceV (length w / 12) ++ drop (4 * (length w / 12)) bests) records-are
-      ∙ ap (λ (k : ℕ). bestsUpto (taskOf q) (wordsUpto s order vectors n) luma u v referenceLuma referenceU referenceV k ++ drop (4 * k) bests)
+      ∙ ap (λ (w : List ℤ). bestsUpto (taskOf q) w luma u v referenceLuma referenceU referenceV (length w / wordsPerRecord)
+      ++ drop (numbersPerBest * (length w / wordsPerRecord)) bests) records-are
+      ∙ ap (λ (k : ℕ). bestsUpto (taskOf q) (wordsUpto s order vectors n) luma u v referenceLuma referenceU referenceV k ++ drop (numbersPerBest * k) bests)
       (record-count s q order vectors n refl (taken .fit))
 
-  each-long : length each ≡ 4 * n
+  each-long : length each ≡ numbersPerBest * n
   each-long = bests-long (taskOf q) (wordsUpto s order vectors n) luma u v referenceLuma referenceU referenceV n
 
-  pub bests-are : take (4 * n) found ≡ each
-  bests-are = ap (take (4 * n)) found-is ∙ take-at each _ (4 * n) each-long
+  pub bests-are : take (numbersPerBest * n) found ≡ each
+  bests-are = ap (take (numbersPerBest * n)) found-is ∙ take-at each _ (numbersPerBest * n) each-long
 
-  pub bests-tail : drop (4 * n) found ≡ drop (4 * n) bests
-  bests-tail = ap (drop (4 * n)) found-is ∙ drop-at each _ (4 * n) each-long
+  pub bests-tail : drop (numbersPerBest * n) found ≡ drop (numbersPerBest * n) bests
+  bests-tail = ap (drop (numbersPerBest * n)) found-is ∙ drop-at each _ (numbersPerBest * n) each-long
 
   -- ---- finishing them is done, and leaves the pass. The vectors have no tail: their length is the grid's.
   module _ (asked : Bool) (output : List ℤ) (room : asked ≡ true → 2 * n ≤ length output) where
-    pub finished : finishAnswer (s .grid .x) (s .grid .y) (take n named) (take (4 * n) found) (madeOf s .diagonal) asked (length vectors) (length output) ≡ 0
+    pub finished : finishAnswer (s .grid .x) (s .grid .y) (take n named) (take (numbersPerBest * n) found) (madeOf s .diagonal) asked
+        (length vectors) (length output) ≡ 0
     finished = rw (indices-are, bests-are) (finishing-done s q order vectors luma u v referenceLuma referenceU referenceV taken asked (length output) room)
 
-    pub vectors-are : finishVectors (s .grid .x) (s .grid .y) (take n named) (take (4 * n) found) (madeOf s .diagonal) asked vectors (length output)
+    pub vectors-are : finishVectors (s .grid .x) (s .grid .y) (take n named) (take (numbersPerBest * n) found) (madeOf s .diagonal) asked
+        vectors (length output)
         ≡ passVectors s q order vectors luma u v referenceLuma referenceU referenceV
     vectors-are = rw (indices-are, bests-are) (pass-vectors s q order vectors luma u v referenceLuma referenceU referenceV taken asked output room)
 
     -- what finishing leaves of the output
     abbrev pub shown : List ℤ
-    shown = finishOutput (s .grid .x) (s .grid .y) (take n named) (take (4 * n) found) (madeOf s .diagonal) asked (length vectors) output
+    shown = finishOutput (s .grid .x) (s .grid .y) (take n named) (take (numbersPerBest * n) found) (madeOf s .diagonal) asked (length vectors) output
 
     pub output-is : shown ≡ cond asked (passOutput s q order vectors luma u v referenceLuma referenceU referenceV output) output
     output-is = rw (indices-are, bests-are) (pass-output s q order vectors luma u v referenceLuma referenceU referenceV taken asked output room)
 
     pub output-tail : drop (2 * n) shown ≡ drop (2 * n) output
-    output-tail = tail-stays (s .grid .x) (s .grid .y) (take n named) (take (4 * n) found) (madeOf s .diagonal) asked (length vectors) output
+    output-tail = tail-stays (s .grid .x) (s .grid .y) (take n named) (take (numbersPerBest * n) found) (madeOf s .diagonal) asked (length vectors) output

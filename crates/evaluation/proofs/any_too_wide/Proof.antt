@@ -7,6 +7,7 @@ use lib.ListN.{length}
 use mir.Facts.{toZ-ofZ}
 use mir.Syntax.{w32}
 use mir.Val.{toZ, ofZ}
+use Rattle.limits.specs.Sizes.{wordsPerRecord}
 use Rattle.limits.specs.Limits.{radiusOf}
 use Rattle.whole.specs.Signed.{got}
 use Rattle.whole.specs.Interval.{is-within, read-within, fits}
@@ -26,7 +27,7 @@ any-wide-requires c κs = omega arith
 returns : tie.Need-returns
 returns c =
     let records = c .before .before .before .args .records .now in
-    c .any-wide .ensures ∙ ap (λ (z : ℤ). anyWide z records (length records / 12)) (radius-is (c .before))
+    c .any-wide .ensures ∙ ap (λ (z : ℤ). anyWide z records (length records / wordsPerRecord)) (radius-is (c .before))
 
 pub any-too-wide-spec : {M : Type 1} → statement M
 any-too-wide-spec = tie.close (tie.spec radius-of-requires any-wide-requires returns)

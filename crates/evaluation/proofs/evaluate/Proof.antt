@@ -6,6 +6,7 @@ use Prim.Native.Nat.{ℕ, _*_, _/_, _<_}
 use native.Mathlib.Omega.{arith}
 use lib.IntN.{ℤ}
 use lib.ListN.{length, drop}
+use Rattle.limits.specs.Sizes.{wordsPerRecord, numbersPerBest}
 use Rattle.limits.specs.Refusals.{kept}
 use Rattle.limits.specs.Refused.{kept-refused, kept-done}
 use Rattle.best.specs.declared.Task.{Task}
@@ -26,8 +27,8 @@ returns c =
     let n = c .before .refusal .result in
     let e = number-is (c .before) in
     let some : 0 < n = omega (arith, c .if1 .taken) in
-    let k = length (a .records .now) / 12 in
-    let written = bestsUpto (taskOf (a .request)) (a .records .now) (a .luma .now) (a .u .now) (a .v .now) (a .reference-luma .now) (a .reference-u .now) (a .reference-v .now) k ++ drop (4 * k) (a .bests .now) in
+    let k = length (a .records .now) / wordsPerRecord in
+    let written = bestsUpto (taskOf (a .request)) (a .records .now) (a .luma .now) (a .u .now) (a .v .now) (a .reference-luma .now) (a .reference-u .now) (a .reference-v .now) k ++ drop (numbersPerBest * k) (a .bests .now) in
     (e, sym (kept-refused n written (a .bests .now) some) ∙ ap (λ (m : ℕ). kept m written (a .bests .now)) e)
 
 done : (c : tie.Else1) → let a = c .before .before .before .before .before .before .before .before .args in refusalOf (a .request) (a .records .now) (length (a .luma .now)) (length (a .u .now)) (length (a .v .now)) (length (a .reference-luma .now)) (length (a .reference-u .now)) (length (a .reference-v .now)) (length (a .bests .now)) ≡ 0
@@ -44,10 +45,10 @@ unfolding evaluateAnswer evaluateBests
 returns-2 c =
     let a = c .before .before .before .before .before .before .before .before .before .before .before .before .args in
     let z = done (c .before .before .before .before) in
-    let k = length (a .records .now) / 12 in (
+    let k = length (a .records .now) / wordsPerRecord in (
       sym z,
       c .before .write-all .ensures
-          ∙ ap (λ (t : Task). bestsUpto t (a .records .now) (a .luma .now) (a .u .now) (a .v .now) (a .reference-luma .now) (a .reference-u .now) (a .reference-v .now) k ++ drop (4 * k) (a .bests .now)) (c .before .before .before .task-of .ensures)
+          ∙ ap (λ (t : Task). bestsUpto t (a .records .now) (a .luma .now) (a .u .now) (a .v .now) (a .reference-luma .now) (a .reference-u .now) (a .reference-v .now) k ++ drop (numbersPerBest * k) (a .bests .now)) (c .before .before .before .task-of .ensures)
           ∙ sym (kept-done _ _ (a .bests .now) z),
     )
 

@@ -10,13 +10,14 @@ use lib.Seq.{paste, paste-zero, paste-suc}
 use mir.Facts.{toZ-ofZ}
 use mir.Syntax.{w32}
 use mir.Val.{SFits}
+use Rattle.limits.specs.Sizes.{numbersPerBest}
 use Rattle.best.specs.declared.Best.{Best}
 use Rattle.evaluation.specs.Evaluated.{bestList}
 use Rattle.evaluation.proofs.put.Statement.{statement}
 use Rattle.evaluation.proofs.put.Tie as tie
 
-four-set : (s : List ℤ) (at : ℕ) (b : Best) → at + 4 ≤ length s →
-    set (set (set (set s at (b .x)) (at + 1) (b .y)) (at + 2) (b .sad)) (at + 3) (b .average) ≡ paste s at (bestList b) 4
+four-set : (s : List ℤ) (at : ℕ) (b : Best) → at + numbersPerBest ≤ length s →
+    set (set (set (set s at (b .x)) (at + 1) (b .y)) (at + 2) (b .sad)) (at + 3) (b .average) ≡ paste s at (bestList b) numbersPerBest
 four-set s at b l =
     let e : at ≡ at + 0 = omega arith in
     let w = bestList b in

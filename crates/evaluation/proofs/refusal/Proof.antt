@@ -4,7 +4,7 @@ use borrow.Author.Tests.{not-true, not-false}
 use mathlib.Core.Path.{_≡_, sym, _∙_}
 use mathlib.Core.Bool.{true}
 use lib.ListN.{length}
-use Rattle.planning.specs.Refusals.{holds3}
+use Rattle.planes.specs.Planes.{holds3}
 use Rattle.evaluation.specs.Refusals.{holds1, holds2, hasRoom, refusalOf}
 use Rattle.evaluation.specs.Accepted.{searched}
 use Rattle.evaluation.proofs.refusal.Statement.{statement}

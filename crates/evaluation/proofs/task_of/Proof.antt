@@ -5,8 +5,8 @@ use lib.IntN.{ℤ}
 use mir.Facts.{toZ-ofZ}
 use mir.Syntax.{w32}
 use mir.Val.{SFits}
-use Rattle.block.specs.declared.Sides.{Sides}
-use Rattle.block.specs.declared.Planes.{Planes}
+use Rattle.planes.specs.declared.Sides.{Sides}
+use Rattle.planes.specs.declared.Planes.{Planes}
 use Rattle.best.specs.declared.Task.{Task}
 use Rattle.evaluation.proofs.task_of.Statement.{statement}
 use Rattle.evaluation.proofs.task_of.Tie as tie

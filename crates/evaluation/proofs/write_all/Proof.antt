@@ -7,6 +7,7 @@ use Prim.Native.Nat.{ℕ, _+_, _-_, _*_, _/_, _≤_, _<_}
 use native.Mathlib.Omega.{arith}
 use lib.IntN.{ℤ}
 use lib.ListN.{length, drop}
+use Rattle.limits.specs.Sizes.{wordsPerRecord, numbersPerBest}
 use Rattle.records.specs.declared.Record.{Record}
 use Rattle.records.specs.Packing.{pairsFit}
 use Rattle.best.specs.Best.{bestOf}
@@ -71,9 +72,9 @@ same-length c = long (c .before)
 returns : tie.Need-returns Inv-loop μ-loop
 returns c =
     let a = c .before .before .before .before .before .before .before .before .args in
-    let e : c .before .loop .i ≡ length (a .records .now) / 12 = omega arith in
+    let e : c .before .loop .i ≡ length (a .records .now) / wordsPerRecord = omega arith in
     c .before .loop .inv .1
-    ∙ ap (λ (k : ℕ). bestsUpto (a .task) (a .records .now) (a .luma .now) (a .u .now) (a .v .now) (a .reference-luma .now) (a .reference-u .now) (a .reference-v .now) k ++ drop (4 * k) (a .bests .now)) e
+    ∙ ap (λ (k : ℕ). bestsUpto (a .task) (a .records .now) (a .luma .now) (a .u .now) (a .v .now) (a .reference-luma .now) (a .reference-u .now) (a .reference-v .now) k ++ drop (numbersPerBest * k) (a .bests .now)) e
 
 pub write-all-spec : {M : Type 1} → statement M
 write-all-spec =

@@ -12,6 +12,7 @@ use lib.Signed.{leZ}
 use mir.Facts.{toZ-ofZ, toZ-pos}
 use mir.Syntax.{w32}
 use mir.Val.{toZ, ofZ}
+use Rattle.limits.specs.Sizes.{numbersPerBest}
 use Rattle.limits.specs.Limits.{blocksOf}
 use Rattle.limits.specs.Refusals.{first}
 use Rattle.limits.specs.Refused.{neither-second}
@@ -117,7 +118,7 @@ any-wild-requires : tie.Need-any-wild-requires
 any-wild-requires c κs =
     let s = c .before .before .before .before .before .before .before .before .before .args in
     let b = c .before .before .before .before .blocks-of .result in
-    let alike = eqb (length (s .bests .now)) (4 * length (s .indices .now)) in
+    let alike = eqb (length (s .bests .now)) (numbersPerBest * length (s .indices .now)) in
     eqb-true _ _ (not-false alike (neither-second (s .output-asked && ltb (s .room) (2 * b)) (not alike) (c .if5 .left)))
 
 returns-6 : tie.Need-returns-6

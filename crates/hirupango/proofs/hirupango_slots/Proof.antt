@@ -1,7 +1,7 @@
 -- What is given of the entry's answer. Assumes nothing.
 use borrow.Author.Needs.{needs}
 use mir.Facts.{toZ-ofZ}
-use Rattle.hirupango.specs.WordLaws.{given-as}
+use Rattle.answer_bytes.specs.WordLaws.{given-as}
 use Rattle.hirupango.proofs.hirupango_slots.Statement.{statement}
 use Rattle.hirupango.proofs.hirupango_slots.Tie as tie
 

@@ -11,7 +11,7 @@ use mir.Syntax.{w32, w64}
 use mir.Val.{SFits, toZ, ofZ}
 use Rattle.whole.specs.Signed.{signed}
 use Rattle.whole.specs.Interval.{Within, Is, is-within, ask-unsigned}
-use Rattle.block.specs.declared.Sides.{Sides}
+use Rattle.planes.specs.declared.Sides.{Sides}
 use Rattle.passes.specs.Fold.{indexAt}
 use Rattle.passes.specs.Asked.{Listed}
 use Rattle.passes.specs.FoldLaws.{index-small}

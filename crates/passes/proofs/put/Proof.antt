@@ -9,14 +9,15 @@ use lib.IntN.{ℤ, pos}
 use lib.ListN.{length, getD, set}
 use lib.Seq.{paste, paste-zero, paste-suc, length-paste}
 use mir.Facts.{toZ-ofZ}
+use Rattle.limits.specs.Sizes.{wordsPerRecord}
 use Rattle.passes.proofs.put.Statement.{statement}
 use Rattle.passes.proofs.put.Tie as tie
 
 abbrev Inv-loop : tie.InvT-loop
-Inv-loop records₀ at words i₀ records i = (i ≤ 12) × (length words ≡ 12) × (records ≡ paste records₀ at words i)
+Inv-loop records₀ at words i₀ records i = (i ≤ wordsPerRecord) × (length words ≡ wordsPerRecord) × (records ≡ paste records₀ at words i)
 
 abbrev μ-loop : tie.MeasureT-loop
-μ-loop records₀ at words i₀ records i = 12 - i
+μ-loop records₀ at words i₀ records i = wordsPerRecord - i
 
 loop-holds : tie.Need-loop-holds Inv-loop μ-loop
 loop-holds c = (omega arith, search needs, paste-zero (c .args .records .now) (c .args .at) (c .args .t3))
@@ -45,7 +46,7 @@ same-length c = long (c .before)
 returns : tie.Need-returns Inv-loop μ-loop
 returns c =
     let a = c .before .before .args in
-    let e : c .before .loop .i ≡ 12 = omega arith in
+    let e : c .before .loop .i ≡ wordsPerRecord = omega arith in
     c .before .loop .inv .2 ∙ ap (λ (k : ℕ). paste (a .records .now) (a .at) (a .t3) k) e
 
 pub put-spec : {M : Type 1} → statement M

@@ -10,6 +10,7 @@ use lib.Seq.{paste}
 use mir.Facts.{toZ-ofZ}
 use mir.Syntax.{w32}
 use mir.Val.{SFits}
+use Rattle.limits.specs.Sizes.{wordsPerRecord}
 use Rattle.passes.specs.Fold.{wordList, slotsAt, wordsUpto, indicesUpto}
 use Rattle.passes.specs.FoldLaws.{Turned, index-is, index-small, Passed, passed-more, words-kept, indices-kept}
 use Rattle.passes.proofs.write_all.Statement.{statement}
@@ -60,8 +61,8 @@ loop-again c =
     let a = c .before .before .before .before .before .before .before .before .before .before .before .before .before .args in
     let q = c .before .before .before .before .before .before .before .before .loop in
     let turn = c .before .before .before .before .before .before .turn-at in
-    let written : c .before .before .put .last .0 ≡ paste (q .records) (12 * q .i) (wordList (turn .result .words)) 12 =
-    c .before .before .put .ensures ∙ ap (λ (l : List ℤ). paste (q .records) (12 * q .i) l 12) (c .before .before .before .listed .ensures) in (
+    let written : c .before .before .put .last .0 ≡ paste (q .records) (wordsPerRecord * q .i) (wordList (turn .result .words)) wordsPerRecord =
+    c .before .before .put .ensures ∙ ap (λ (l : List ℤ). paste (q .records) (wordsPerRecord * q .i) l wordsPerRecord) (c .before .before .before .listed .ensures) in (
       omega arith,
       rw (written, toZ-ofZ (index-fits (c .before .before .before .before .before .before))) (passed-more (q .inv .1) (omega (arith, c .before .before .before .before .before .before .before .before .before .before .before .before .before .pre .1 .1, c .before .before .before .before .before .before .before .loop-test .taken)) (turn .ensures)),
     )
@@ -77,7 +78,7 @@ returns c =
     let a = c .before .before .before .before .before .before .args in
     let e : c .before .loop .i ≡ a .n = omega arith in
     let p = c .before .loop .inv .1 in (
-      p .words-are ∙ ap (λ (k : ℕ). wordsUpto (a .s) (a .order .now) (a .vectors .now) k ++ drop (12 * k) (a .records .now)) e,
+      p .words-are ∙ ap (λ (k : ℕ). wordsUpto (a .s) (a .order .now) (a .vectors .now) k ++ drop (wordsPerRecord * k) (a .records .now)) e,
       p .indices-are ∙ ap (λ (k : ℕ). indicesUpto (a .s) (a .order .now) (a .vectors .now) k ++ drop k (a .indices .now)) e,
     )
 

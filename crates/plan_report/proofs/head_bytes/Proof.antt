@@ -2,7 +2,7 @@
 use borrow.Author.Needs.{needs}
 use mathlib.Core.Path.{_≡_, _∙_}
 use Rattle.report_text.specs.declared.Written.the-variants as written
-use Rattle.plan_file.specs.Lengths.{head-most, head-fits}
+use Rattle.plan_lines.specs.Lengths.{head-most, head-fits}
 use Rattle.plan_report.specs.Accepted.{headLength}
 use Rattle.plan_report.specs.Answers.{not-refused, length-is}
 use Rattle.plan_report.proofs.head_bytes.Statement.{statement}

@@ -4,7 +4,7 @@ use mathlib.Core.Path.{_≡_, _∙_}
 use native.Mathlib.Omega.{arith}
 use Rattle.report_text.specs.declared.Written.the-variants as written
 use Rattle.plan_file.specs.Served.{served}
-use Rattle.plan_file.specs.Lengths.{line-most, line-fits}
+use Rattle.plan_lines.specs.Lengths.{line-most, line-fits}
 use Rattle.plan_report.specs.Accepted.{lineLength}
 use Rattle.plan_report.specs.Answers.{not-refused, length-is}
 use Rattle.plan_report.proofs.line_bytes.Statement.{statement}

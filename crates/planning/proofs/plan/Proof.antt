@@ -8,6 +8,7 @@ use lib.ListN.{length, drop}
 use Rattle.passes.specs.Fold.{wordsUpto, indicesUpto}
 use Rattle.planning.specs.declared.Planned.the-variants.{Done}
 use Rattle.planning.specs.Refusals.{blockCount, refusalOf}
+use Rattle.limits.specs.Sizes.{wordsPerRecord}
 use Rattle.limits.specs.Refusals.{kept}
 use Rattle.limits.specs.Refused.{kept-refused, kept-done}
 use Rattle.planning.specs.Planned.{answered, madeOf, planAnswer, planRecords, planIndices}
@@ -23,7 +24,7 @@ returns c =
     let e = c .before .refusal .ensures in
     let k = blockCount (a .s .grid) in
     let some : 0 < n = omega (arith, c .if1 .taken) in
-    let words = wordsUpto (a .s) (a .order .now) (a .vectors .now) k ++ drop (12 * k) (a .records .now) in
+    let words = wordsUpto (a .s) (a .order .now) (a .vectors .now) k ++ drop (wordsPerRecord * k) (a .records .now) in
     let indices = indicesUpto (a .s) (a .order .now) (a .vectors .now) k ++ drop k (a .indices .now) in (
       answered-refused n (madeOf (a .s)) (c .if1 .taken) ∙ ap (λ (m : ℕ). answered m (madeOf (a .s))) e,
       (
@@ -63,7 +64,7 @@ returns-2 c =
     let w = c .before .before .before .write-all .ensures in (
       ap Done (c .made-of .ensures) ∙ sym (answered-done (madeOf (a .s)) z),
       (
-        w .0 ∙ ap (λ (k : ℕ). wordsUpto (a .s) (a .order .now) (a .vectors .now) k ++ drop (12 * k) (a .records .now)) e ∙ sym (kept-done _ _ (a .records .now) z),
+        w .0 ∙ ap (λ (k : ℕ). wordsUpto (a .s) (a .order .now) (a .vectors .now) k ++ drop (wordsPerRecord * k) (a .records .now)) e ∙ sym (kept-done _ _ (a .records .now) z),
         w .1 ∙ ap (λ (k : ℕ). indicesUpto (a .s) (a .order .now) (a .vectors .now) k ++ drop k (a .indices .now)) e ∙ sym (kept-done _ _ (a .indices .now) z),
       ),
     )

@@ -5,7 +5,8 @@ use mathlib.Core.Path.{_≡_, sym, _∙_}
 use mathlib.Core.Bool.{true}
 use native.Mathlib.Omega.{arith}
 use lib.ListN.{length}
-use Rattle.planning.specs.Refusals.{blockCount, holds1, holds2, vectorsFit, holds3, orderHolds, hasRoom, refusalOf}
+use Rattle.planes.specs.Planes.{holds3}
+use Rattle.planning.specs.Refusals.{blockCount, holds1, holds2, vectorsFit, orderHolds, hasRoom, refusalOf}
 use Rattle.planning.specs.Accepted.{settings, count-small, listed-is, held-is, served}
 use Rattle.planning.proofs.refusal.Statement.{statement}
 use Rattle.planning.proofs.refusal.Tie as tie

@@ -1,0 +1,5 @@
+pub mod Word
+pub mod WordLaws
+pub mod Slots
+pub mod BlockCost
+pub mod BlockCostLaws

@@ -1,0 +1,13 @@
+-- How many numbers a thing takes in what is lent. Definitions alone.
+use Prim.Native.Nat.{ℕ, _*_}
+
+-- 01, "Plan file": "records of 12 little-endian words", four bytes each
+abbrev pub wordsPerRecord : ℕ
+wordsPerRecord = 12
+
+abbrev pub bytesPerRecord : ℕ
+bytesPerRecord = 4 * wordsPerRecord
+
+-- a record's best: "x, y, SAD, average"
+abbrev pub numbersPerBest : ℕ
+numbersPerBest = 4
