@@ -7,7 +7,7 @@ use Rattle.records.specs.declared.Offset.the-variants.{At}
 use Rattle.records.specs.declared.Record.{Record}
 use Rattle.slots.specs.declared.Source.{Source}
 use Rattle.slots.specs.declared.Slots.{Slots}
-use Rattle.slots.specs.Slots.{activeOf, lumaInActive, chromaInActive, insideOf, oneActive}
+use Rattle.slots.specs.Slots.{activeOf, lumaInActive, chromaInActive, insideOf, movedOf}
 use Rattle.plane.specs.declared.Place.{Place}
 use Rattle.plane.specs.Places.{pel1Of}
 use Rattle.planes.specs.declared.Sides.{Sides}
@@ -38,7 +38,7 @@ module _ (p : Planes) (spot : Spot) (t : Slots) where
 -- ---- a block is settled
 module _ (p : Planes) (negative : Bool) (spot : Spot) (t : Slots) where
   pub moved-settled : (moves : Bool) {switched after : Slots} → moves ≡ true →
-      switched ≡ oneActive t → after ≡ filledWith p negative spot switched → after ≡ settledAt p negative moves spot t
+      switched ≡ movedOf t → after ≡ filledWith p negative spot switched → after ≡ settledAt p negative moves spot t
   unfolding settledAt
   moved-settled true n e₀ e₁ = e₁ ∙ ap (filledWith p negative spot) e₀
   moved-settled false n e₀ e₁ = absurd (holds n)

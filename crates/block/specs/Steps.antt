@@ -7,7 +7,7 @@ use Rattle.records.specs.declared.Pair.{Pair}
 use Rattle.records.specs.declared.Record.{Record}
 use Rattle.slots.specs.declared.Source.{Source}
 use Rattle.slots.specs.declared.Slots.{Slots}
-use Rattle.slots.specs.Slots.{activeOf, lumaInActive, chromaInActive, insideOf, oneActive}
+use Rattle.slots.specs.Slots.{activeOf, lumaInActive, chromaInActive, insideOf, movedOf}
 use Rattle.plane.specs.declared.Place.{Place}
 use Rattle.plane.specs.Places.{pel1Of}
 use Rattle.axis.specs.Axis.{windowOf}
@@ -30,7 +30,7 @@ filledWith p negative spot t =
 -- "Both axes 0: slot 0 becomes active and supplies the samples, even if this block has just written slot 1. Otherwise .. slot 1 is written with the moved
 -- place and becomes active"
 unfoldable pub settledAt : Planes → Bool → Bool → Spot → Slots → Slots
-settledAt p negative moves spot t = cond moves (filledWith p negative spot (oneActive t)) (insideOf t)
+settledAt p negative moves spot t = cond moves (filledWith p negative spot (movedOf t)) (insideOf t)
 
 -- ---- the record
 -- "flags (BAD 1, NEGATIVE 2)"

@@ -9,7 +9,7 @@ use records::Record;
 use slots::Slots;
 use slots::Source;
 ghost use mathlib.Core.Path.{_≡_};
-ghost use mathlib.Core.Bool.{false};
+ghost use mathlib.Core.Bool.{Bool};
 ghost use Rattle.whole.specs.Interval.{Within};
 ghost use Rattle.plane.specs.Places.{pel1Of};
 ghost use Rattle.axis.specs.Bounds.{Bounded};
@@ -282,7 +282,7 @@ fn settled(
     ensures { λ r. ⌜ r ≡ settledAt planes negative moves spot slots ⌝ }
 {
     if moves {
-        let switched = slots::to_one(slots);
+        let switched = slots::moved(slots);
         return filled(luma, u, v, planes, negative, spot, switched);
     }
     slots::inside(slots)
@@ -405,7 +405,7 @@ fn bad_step(
     slots: Slots,
 ) -> Step
     requires { ⌜ Bounded (shape .across) × Bounded (shape .down) ⌝ }
-    requires { ⌜ SpotHeld planes (shape .negative) (spotOf shift false shape) × SpotHeld planes (shape .negative) (spotOf shift (movesOf shape) shape) ⌝ }
+    requires { ⌜ ((moves : Bool) → SpotHeld planes (shape .negative) (spotOf shift moves shape)) ⌝ }
     ensures { λ r. ⌜ r ≡ badStep planes shift block shape lambda slots ⌝ }
 {
     let place = planes.luma;

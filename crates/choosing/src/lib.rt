@@ -68,16 +68,14 @@ pub fn x_at(choice: Choice, i: usize) -> i32
     requires { ⌜ Ranged choice × (i < 65536) ⌝ }
     ensures { λ r. ⌜ r ≡ choice .«least_x» +ℤ pos i ⌝ }
 {
-    let least = choice.least_x;
-    along(least, i)
+    along(choice.least_x, i)
 }
 
 pub fn y_at(choice: Choice, j: usize) -> i32
     requires { ⌜ Ranged choice × (j < 65536) ⌝ }
     ensures { λ r. ⌜ r ≡ choice .«least_y» +ℤ pos j ⌝ }
 {
-    let least = choice.least_y;
-    along(least, j)
+    along(choice.least_y, j)
 }
 
 fn distance_cost(choice: Choice, vx: i32, vy: i32) -> i32

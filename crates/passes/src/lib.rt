@@ -173,7 +173,8 @@ pub fn write_all(
         put(records, limits::WORDS_PER_RECORD * i, listed(words));
         let index = turn.index;
         indices[i] = index as i32;
-        slots = turn.slots;
+        let handed_on = turn.slots;
+        slots = handed_on;
         i += 1;
     }
 }

@@ -48,5 +48,5 @@ abbrev pub insideOf : Slots → Slots
 insideOf t = record { zero = t .zero; one = t .one; «one_active» = false }
 
 -- "Otherwise .. slot 1 is written with the moved place and becomes active": it becomes active first, so that the write goes there.
-abbrev pub oneActive : Slots → Slots
-oneActive t = record { zero = t .zero; one = t .one; «one_active» = true }
+abbrev pub movedOf : Slots → Slots
+movedOf t = record { zero = t .zero; one = t .one; «one_active» = true }

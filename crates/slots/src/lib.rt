@@ -2,7 +2,7 @@
 // Nothing here clears a slot. What an earlier block left is what a later one reads.
 use records::Offset;
 ghost use mathlib.Core.Path.{_≡_};
-ghost use Rattle.slots.specs.Slots.{noSource, atStart, lumaWritten, chromaWritten, activeOf, withActive, lumaInActive, chromaInActive, insideOf, oneActive};
+ghost use Rattle.slots.specs.Slots.{noSource, atStart, lumaWritten, chromaWritten, activeOf, withActive, lumaInActive, chromaInActive, insideOf, movedOf};
 
 pub struct Source {
     pub full: Offset,
@@ -75,21 +75,22 @@ pub fn inside(slots: Slots) -> Slots
 {
     let zero = slots.zero;
     let one = slots.one;
+    let one_active = false;
     Slots {
         zero: zero,
         one: one,
-        one_active: false,
+        one_active: one_active,
     }
 }
 
-// A block that moves makes slot 1 active, and then writes there.
-pub fn to_one(slots: Slots) -> Slots
-    ensures { λ r. ⌜ r ≡ oneActive slots ⌝ }
+// A block that moves makes slot 1 active, and then writes there. What an earlier block left in slot 0 stays.
+pub fn moved(slots: Slots) -> Slots
+    ensures { λ r. ⌜ r ≡ movedOf slots ⌝ }
 {
-    let zero = slots.zero;
+    let left = slots.zero;
     let one = slots.one;
     Slots {
-        zero: zero,
+        zero: left,
         one: one,
         one_active: true,
     }

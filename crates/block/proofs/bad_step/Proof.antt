@@ -21,7 +21,7 @@ spot-of-requires : tie.Need-spot-of-requires
 spot-of-requires c κs = c .before .before .before .before .pre .0
 
 filled-requires : tie.Need-filled-requires
-filled-requires c κs = rw (c .spot-of .ensures) (c .before .before .before .before .before .pre .1 .0)
+filled-requires c κs = rw (c .spot-of .ensures) (c .before .before .before .before .before .pre .1 _)
 
 is-moved-requires : tie.Need-is-moved-requires
 is-moved-requires c κs = c .before .before .before .before .before .before .pre .0
@@ -35,7 +35,7 @@ spot-is c = c .spot-of2 .ensures ∙ ap (λ (m : Bool). spotOf (c .before .befor
 settled-requires : tie.Need-settled-requires
 settled-requires c κs =
     let s = (c .before .before .before .before .before .before .before .before) in
-    subst (SpotHeld (s .args .planes) (s .args .shape .negative)) (sym (spot-is c)) (s .pre .1 .1)
+    simp (c .spot-of2 .ensures, c .before .before .before .spot-of .ensures) (s .pre .1 _)
 
 -- what is read of the block's own spot
 module _ (c : tie.After-struct-told2) where
@@ -49,7 +49,7 @@ offset-at-requires : tie.Need-offset-at-requires
 offset-at-requires c κs =
     let f = own-x c in
     let g = own-y c in
-    simp toZ-ofZ (rw (c .before .before .before .before .before .before .before .spot-of .ensures) (c .before .before .before .before .before .before .before .before .before .before .before .before .pre .1 .0 .luma))
+    simp toZ-ofZ (rw (c .before .before .before .before .before .before .before .spot-of .ensures) (c .before .before .before .before .before .before .before .before .before .before .before .before .pre .1 _ .luma))
 
 bad-record-requires : tie.Need-bad-record-requires
 bad-record-requires c κs =

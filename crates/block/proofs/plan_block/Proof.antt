@@ -1,7 +1,7 @@
 -- The block's shape and lambda, and then one of the three kinds. Assumes nothing.
 use borrow.Author.Needs.{needs}
 use mathlib.Core.Path.{_≡_, sym, subst, _∙_}
-use mathlib.Core.Bool.{false}
+use mathlib.Core.Bool.{Bool, false}
 use mir.Facts.{toZ-ofZ}
 use mir.Syntax.{w32}
 use mir.Val.{SFits, toZ, ofZ}
@@ -24,19 +24,18 @@ shape-of-requires c κs = shaped (c .before .before .before .before .before .bef
 pub record Asks (s : Settings) (h : Shape) : Type 0 where
   across : Bounded (h .across)
   down : Bounded (h .down)
-  own : SpotHeld (s .planes) (h .negative) (spotOf (s .shift) false h)
-  there : SpotHeld (s .planes) (h .negative) (spotOf (s .shift) (movesOf h) h)
+  held : (moves : Bool) → SpotHeld (s .planes) (h .negative) (spotOf (s .shift) moves h)
   luma : Addressed (s .planes .luma) (h .across .origin) (h .down .origin)
 
 asks : {s : Settings} {b : Block} {h : Shape} → Ready s b → h ≡ shapeOf s b → Asks s h
 asks {s} {b} k e =
     subst (Asks s) (sym e)
-    (record { across = across-bounded k; down = down-bounded k; own = spot-held k false; there = spot-held k (movesOf (shapeOf s b)); luma = origin-addressed k })
+    (record { across = across-bounded k; down = down-bounded k; held = spot-held k; luma = origin-addressed k })
 
 bad-step-requires : tie.Need-bad-step-requires
 bad-step-requires c κs =
     let k = asks (c .before .before .before .before .before .before .before .before .before .before .before .before .pre) (c .before .before .before .before .shape-of .ensures) in
-    ((k .across, k .down), (k .own, k .there))
+    ((k .across, k .down), k .held)
 
 luma-step-requires : tie.Need-luma-step-requires
 luma-step-requires c κs = asks (c .before .before .before .before .before .before .before .before .before .before .before .before .before .before .pre) (c .before .before .before .before .before .before .shape-of .ensures) .luma

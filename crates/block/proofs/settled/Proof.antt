@@ -7,7 +7,7 @@ use Rattle.block.proofs.settled.Tie as tie
 returns : tie.Need-returns
 returns c =
     let a = c .before .before .before .before .before .before .args in
-    moved-settled (a .planes) (a .negative) (a .spot) (a .slots) (a .moves) (c .before .before .if1 .taken) (c .before .to-one .ensures) (c .filled .ensures)
+    moved-settled (a .planes) (a .negative) (a .spot) (a .slots) (a .moves) (c .before .before .if1 .taken) (c .before .moved .ensures) (c .filled .ensures)
 
 returns-2 : tie.Need-returns-2
 returns-2 c =

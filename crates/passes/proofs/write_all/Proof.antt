@@ -50,9 +50,6 @@ index-fits c = let l = index-below c in record { sfits = omega arith }
 cast-indices : tie.Need-cast-indices Inv-loop μ-loop
 cast-indices c = index-fits (c .before .before .before .before .before)
 
-mul-t19 : tie.Need-mul-t19 Inv-loop μ-loop
-mul-t19 c = omega (arith, c .before .before .before .before .before .before .before .before .before .before .before .before .good .1)
-
 slice-set-from-indices : tie.Need-slice-set-from-indices Inv-loop μ-loop
 slice-set-from-indices c = let e = indices-kept (c .before .before .before .before .before .before .before .loop .inv .1) (omega arith) in omega arith
 
@@ -95,7 +92,7 @@ write-all-spec =
     (λ c κs. search needs)
     put-requires
     cast-indices
-    mul-t19
+    (λ c. omega (arith, c .before .before .before .before .before .before .before .before .before .before .before .before .good .1))
     slice-set-from-indices
     (λ c. omega arith)
     (λ c. omega arith)

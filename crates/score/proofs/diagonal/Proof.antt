@@ -65,7 +65,10 @@ mul-root : tie.Need-mul-root
 mul-root c = let f = c .before .before .fits .width in simp toZ-ofZ (omega (arith, squared-small (c .before .before .args .width) (wide c)))
 
 mul-root-2 : tie.Need-mul-root-2
-mul-root-2 c = let f = c .before .before .fits .height in simp toZ-ofZ (omega (arith, squared-small (c .before .before .args .height) (high c)))
+mul-root-2 c =
+    let f = c .before .before .fits .width in
+    let g = c .before .before .fits .height in
+    simp toZ-ofZ (omega (arith, squared-small (c .before .before .args .width) (wide c), squared-small (c .before .before .args .height) (high c)))
 
 add-root : tie.Need-add-root
 add-root c =
