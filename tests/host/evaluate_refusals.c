@@ -203,7 +203,6 @@ static void sides_of_planes(void) {
 
 static void pitches(void) {
     for (int at = 0; at < PLANES; at++) {
-        TRY(0, (plane(at)->pitch = plane(at)->width, fit_lengths()));
         TRY(2, plane(at)->pitch = plane(at)->width - 1);
         TRY(0, (plane(at)->pitch = 65536, fit_lengths()));
         TRY(2, (plane(at)->pitch = 65537, fit_lengths()));
@@ -317,7 +316,6 @@ static void spoil(uint32_t number) {
 
 static void several(void) {
     for (int low = 0; low < 5; low++) {
-        TRY(GIVEN[low], spoil(GIVEN[low]));
         for (int high = low + 1; high < 5; high++) TRY(GIVEN[low], (spoil(GIVEN[low]), spoil(GIVEN[high])));
         base();
         for (int at = low; at < 5; at++) spoil(GIVEN[at]);

@@ -211,7 +211,6 @@ static void chroma_sides(void) {
 
 static void pitches(void) {
     for (int at = 0; at <= 2; at++) {
-        TRY(0, (plane(at)->pitch = plane(at)->width, fit_lengths()));
         TRY(2, plane(at)->pitch = plane(at)->width - 1);
         TRY(0, (plane(at)->pitch = 65536, fit_lengths()));
         TRY(2, (plane(at)->pitch = 65537, fit_lengths()));
@@ -272,14 +271,12 @@ static void lengths(void) {
 /* ---- 4 */
 static void entries(void) {
     for (size_t at = 0; at < 8; at++) {
-        TRY(4, order[at] = -1);
         TRY(0, order[at] = 0);
         TRY(0, order[at] = 1);
+        /* for the first entry this would be the place of (0,1), were it not asked about */
         TRY(4, order[at] = 2);
         for (int i = 0; i < 3; i++) TRY(4, order[at] = ENDS[i]);
     }
-    /* the place of (0,1), were it not asked about */
-    TRY(4, (order[0] = 2, order[1] = 0));
     TRY(0, (grid(3, 2), order[0] = 2));
     TRY(4, (grid(3, 2), order[1] = 2));
     TRY(0, (grid(2, 3), order[1] = 2));
@@ -387,7 +384,6 @@ static void spoil(uint32_t number) {
 
 static void several(void) {
     for (uint32_t low = 1; low <= 6; low++) {
-        TRY(low, spoil(low));
         for (uint32_t high = low + 1; high <= 6; high++) TRY(low, (spoil(low), spoil(high)));
         base();
         for (uint32_t number = low; number <= 6; number++) spoil(number);

@@ -61,7 +61,13 @@ pub(crate) fn unrecord(words: &[i32]) -> [i32; 18] {
     ]
 }
 
-pub(crate) fn block_cost(satd: bool, size: (usize, usize), pitch: usize, a: &[u8], b: &[u8]) -> u32 {
+pub(crate) fn block_cost(
+    satd: bool,
+    size: (usize, usize),
+    pitch: usize,
+    a: &[u8],
+    b: &[u8],
+) -> u32 {
     let of = |block: &[u8], y: usize, x: usize| i32::from(block[y * pitch + x]);
     cost(satd, size.0, size.1, |y, x| of(a, y, x), |y, x| of(b, y, x))
 }

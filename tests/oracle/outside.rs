@@ -34,7 +34,9 @@ pub(crate) enum Case {
 
 /// `KIND inputs = what the Rust does`, of the case with that name.
 pub(crate) fn line(name: &str) -> Option<String> {
-    let (_, case) = outside_cases::all().into_iter().find(|case| case.0 == name)?;
+    let (_, case) = outside_cases::all()
+        .into_iter()
+        .find(|case| case.0 == name)?;
     let (kind, numbers) = inputs(&case);
     Some(format!("{kind} {} = {}", joined(&numbers), done(&case)))
 }
@@ -54,9 +56,10 @@ fn inputs(case: &Case) -> (&'static str, Vec<i64>) {
         Case::Block(numbers) => ("block", wide(numbers)),
         Case::Order(nx, ny) => ("order", wide(&[*nx, *ny])),
         Case::Score(numbers) => ("score", wide(numbers)),
-        Case::Cost(satd, (width, height), pitch) => {
-            ("cost", vec![(*satd).into(), *width as i64, *height as i64, *pitch as i64])
-        }
+        Case::Cost(satd, (width, height), pitch) => (
+            "cost",
+            vec![(*satd).into(), *width as i64, *height as i64, *pitch as i64],
+        ),
         Case::Plan(case, planes) => ("plan", plan_inputs(case, planes)),
         Case::Evaluate(case, planes) => ("evaluate", evaluate_inputs(case, planes)),
         Case::Finish(case, vectors, words) => ("finish", finish_inputs(case, *vectors, *words)),
@@ -67,7 +70,16 @@ fn own_numbers(planes: &[Own]) -> impl Iterator<Item = i64> {
     planes.iter().flat_map(|own| {
         let [base, pitch, width, height, length] = own.plane.numbers();
         let (seed, levels) = (own.fill.seed.into(), own.fill.levels.into());
-        [base, pitch, width, height, own.pel.into(), length, seed, levels]
+        [
+            base,
+            pitch,
+            width,
+            height,
+            own.pel.into(),
+            length,
+            seed,
+            levels,
+        ]
     })
 }
 
@@ -115,7 +127,10 @@ fn done(case: &Case) -> String {
     watched(|| match case {
         Case::Record(values) => recorded(values),
         Case::Position([nx, ny, bx, by]) => {
-            format!("answers {}", inside::serpentine_position(*nx, *ny, *bx, *by))
+            format!(
+                "answers {}",
+                inside::serpentine_position(*nx, *ny, *bx, *by)
+            )
         }
         Case::Block([nx, ny, position]) => {
             let (bx, by) = inside::serpentine_block(*nx, *ny, *position);
@@ -123,7 +138,10 @@ fn done(case: &Case) -> String {
         }
         Case::Order(nx, ny) => ordered(&inside::serpentine_order(*nx, *ny)),
         Case::Score([x, y, sad, diagonal, average]) => {
-            format!("answers {}", inside::score(*x, *y, *sad, *diagonal, *average))
+            format!(
+                "answers {}",
+                inside::score(*x, *y, *sad, *diagonal, *average)
+            )
         }
         Case::Cost(satd, size, pitch) => costed(*satd, *size, *pitch),
         Case::Plan(case, planes) => planned(case, planes),
@@ -143,7 +161,11 @@ fn recorded(values: &[i32; 18]) -> String {
 
 /// Its first blocks say enough.
 fn ordered(order: &[(i16, i16)]) -> String {
-    let first: Vec<i64> = order.iter().take(3).flat_map(|&(x, y)| [x.into(), y.into()]).collect();
+    let first: Vec<i64> = order
+        .iter()
+        .take(3)
+        .flat_map(|&(x, y)| [x.into(), y.into()])
+        .collect();
     format!("answers {} blocks: {}", order.len(), joined(&first))
 }
 
@@ -151,7 +173,10 @@ fn ordered(order: &[(i16, i16)]) -> String {
 fn costed(satd: bool, size: (usize, usize), pitch: usize) -> String {
     let length = (size.1 - 1) * pitch + size.0;
     let a: Vec<u8> = (0..length).map(|i| i as u8).collect();
-    format!("answers {}", inside::block_cost(satd, size, pitch, &a, &vec![0; length]))
+    format!(
+        "answers {}",
+        inside::block_cost(satd, size, pitch, &a, &vec![0; length])
+    )
 }
 
 fn view<'a>(own: &Own, data: &'a [u8]) -> PlaneView<'a> {
@@ -180,7 +205,14 @@ fn planned(case: &PlanCase, planes: &[Own; 3]) -> String {
 fn evaluated(case: &EvaluateCase, planes: &[Own; 6]) -> String {
     let data = planes.map(|own| own.fill.bytes(own.plane.length));
     let [y, u, v, y2, u2, v2] = [0, 1, 2, 3, 4, 5].map(|at: usize| view(&planes[at], &data[at]));
-    let (source, reference) = (LevelFrame { y, u, v }, LevelFrame { y: y2, u: u2, v: v2 });
+    let (source, reference) = (
+        LevelFrame { y, u, v },
+        LevelFrame {
+            y: y2,
+            u: u2,
+            v: v2,
+        },
+    );
     let bests = inside::evaluate(case, &source, &reference);
     let bests: Vec<String> = bests.iter().map(|best| joined(&wide(best))).collect();
     format!("evaluates {}", bests.join("; "))
@@ -196,10 +228,23 @@ fn finished(case: &FinishCase, vectors: usize, words: usize) -> String {
             stored += &format!(" vector {index}: {x} {y} {sad}");
         }
     }
-    for (at, &word) in finished.words.iter().enumerate().filter(|word| *word.1 != 0) {
+    for (at, &word) in finished
+        .words
+        .iter()
+        .enumerate()
+        .filter(|word| *word.1 != 0)
+    {
         stored += &format!(" word {at}: {}", word as i32);
     }
-    let stored = if stored.is_empty() { " nothing" } else { &stored };
-    let how = if done { "stores" } else { "stops, having stored" };
+    let stored = if stored.is_empty() {
+        " nothing"
+    } else {
+        &stored
+    };
+    let how = if done {
+        "stores"
+    } else {
+        "stops, having stored"
+    };
     format!("{how}{stored}")
 }

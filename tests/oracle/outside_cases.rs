@@ -11,14 +11,17 @@ use crate::planes::{Fill, Plane};
 type Named = (&'static str, Case);
 
 pub(crate) fn all() -> Vec<Named> {
-    [small(), finishes(), plans(), evaluations()].into_iter().flatten().collect()
+    [small(), finishes(), plans(), evaluations()]
+        .into_iter()
+        .flatten()
+        .collect()
 }
 
+#[rustfmt::skip]
 fn small() -> Vec<Named> {
-    let mut record = [NONE, NONE, NONE, NONE, NONE, 0, 0, 0, 0, 3, -4, 0, -1, 0, -1, 10, 0, 0];
-    record[17] = 4;
+    let flags_4 = [NONE, NONE, NONE, NONE, NONE, 0, 0, 0, 0, 3, -4, 0, -1, 0, -1, 10, 0, 4];
     vec![
-        ("record-flags-4", Case::Record(record)),
+        ("record-flags-4", Case::Record(flags_4)),
         ("position-side-1", Case::Position([1, 2, 0, 0])),
         ("position-side-2049", Case::Position([2049, 2, 0, 0])),
         ("position-place-outside", Case::Position([2, 2, 2, 0])),
@@ -56,6 +59,7 @@ fn finish_grid(nx: i32, ny: i32) -> Case {
     })
 }
 
+#[rustfmt::skip]
 fn finishes() -> Vec<Named> {
     vec![
         ("finish-word-wraps", finish(|case, _, _| case.bests[0][..2].copy_from_slice(&[-32_768, -1]))),
@@ -91,9 +95,19 @@ fn finishes() -> Vec<Named> {
 
 /// A plane with nothing between its rows, just held by its data.
 fn tight(width: i32, height: i32, pel: i32) -> Own {
-    let mut plane = Plane { base: 0, pitch: width as usize, width, height, length: 0 };
+    let mut plane = Plane {
+        base: 0,
+        pitch: width as usize,
+        width,
+        height,
+        length: 0,
+    };
     plane.length = plane.least_length();
-    Own { plane, pel, fill: Fill { seed: 0, levels: 1 } }
+    Own {
+        plane,
+        pel,
+        fill: Fill { seed: 0, levels: 1 },
+    }
 }
 
 /// 2x2 blocks of 8x8 in 16x16 at pel 1, chroma as large as luma, no block bad, with one change.
@@ -132,6 +146,7 @@ fn bad_first(case: &mut PlanCase) {
     case.vectors[0].2 = 101;
 }
 
+#[rustfmt::skip]
 fn plans() -> Vec<Named> {
     vec![
         ("plan-param-least", plan(|case, _| case.search_param = i32::MIN)),
@@ -232,7 +247,9 @@ fn evaluate(change: impl Fn(&mut EvaluateCase, &mut [Own; 6])) -> Case {
 fn searched(x: (i64, i64), y: (i64, i64)) -> Vec<i32> {
     let (origin, corner) = (8 * 32 + 8, pair_word(16, 16) as i32);
     let (x, y) = (pair_word(x.0, x.1) as i32, pair_word(y.0, y.1) as i32);
-    vec![origin, NONE, origin, origin, origin, corner, corner, 0, x, y, 0, BAD as i32]
+    vec![
+        origin, NONE, origin, origin, origin, corner, corner, 0, x, y, 0, BAD as i32,
+    ]
 }
 
 /// Other sides for some planes, just held by their data, which stay what they were.
@@ -248,6 +265,7 @@ fn pel_of_all(case: &mut EvaluateCase, planes: &mut [Own; 6], pel: i32) {
     planes.iter_mut().for_each(|own| own.pel = pel);
 }
 
+#[rustfmt::skip]
 fn evaluations() -> Vec<Named> {
     vec![
         ("evaluate-radius-4", evaluate(|case, _| {
