@@ -116,7 +116,7 @@ static void asked(const char *what, uint32_t number) {
     expect(answered == number, "number", answered, number);
     expect(marked(bests, NUMBERS * n, NUMBERS * MOST), "what is behind the bests has changed", 1, 0);
     expect(memcmp(records, before, sizeof records) == 0, "the records have changed", 1, 0);
-    for (size_t i = 0; i < n; i++) expect(is_best(records + WORDS * i, bests + NUMBERS * i), "a record's best", (long)i, 0);
+    for (size_t i = 0; i < n; i++) expect(is_best(records + WORDS * i, bests + NUMBERS * i), "a record's best", (long)i, bests[NUMBERS * i]);
 }
 
 /* The base with one change, and the number that it must be given. */

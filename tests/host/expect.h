@@ -17,8 +17,8 @@ void new_case(const char *export, const char *what);
 void given_number(int64_t number);
 void given(const void *bytes, size_t n);
 
-/* One check of the case. Each that fails is named. */
-void expect(int held, const char *check, long found, long expected);
+/* One check of the case. Each that fails is named, with two numbers: where there are such, what was found and what it must be. */
+void expect(int held, const char *check, long a, long b);
 
 /* The answer's number, and what is lent afterwards: value in the first four bytes where number is 0, else as it was. */
 void expect_answer(uint32_t number, uint32_t answered, uint32_t value, const uint8_t *before, const uint8_t *after, size_t length);

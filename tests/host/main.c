@@ -4,7 +4,8 @@
 
 enum { PLACES = 1 << 16 };
 
-static uint64_t seen[PLACES], print_of_case;
+/* What the inputs of a case come down to: one number for each case, and those of all cases counted. */
+static uint64_t print_of_case, seen[PLACES];
 static long passed, failed, again;
 static int checks, wrong;
 static const char *export_of_case, *what_of_case;
@@ -39,7 +40,7 @@ void new_case(const char *export, const char *what) {
     while (*export) given_number(*export++);
 }
 
-/* FNV-1a, a word at a time and then once more by its upper half, so that every bit reaches the lower ones. */
+/* FNV-1a, with its upper half stirred in too, so that every bit reaches the lower ones. */
 static void stir(uint64_t word) {
     print_of_case = (print_of_case ^ word) * 1099511628211u;
     print_of_case ^= print_of_case >> 29;
@@ -55,11 +56,11 @@ void given(const void *bytes, size_t n) {
     for (size_t i = 0; i < n; i++) stir(at[i]);
 }
 
-void expect(int held, const char *check, long found, long expected) {
+void expect(int held, const char *check, long a, long b) {
     checks++;
     if (held) return;
     wrong = 1;
-    printf("failed: %s, %s: %s, %ld and not %ld\n", export_of_case, what_of_case, check, found, expected);
+    printf("failed: %s, %s: %s, %ld %ld\n", export_of_case, what_of_case, check, a, b);
 }
 
 void expect_answer(uint32_t number, uint32_t answered, uint32_t value, const uint8_t *before, const uint8_t *after, size_t length) {
