@@ -97,19 +97,26 @@ static int is_best(const int32_t *record, const int32_t *best) {
     return best[0] == x && best[1] == y && best[2] == (bad ? 0 : record[SAD]) && best[3] == 0;
 }
 
+static void begin(const char *what) {
+    new_case("evaluate", what);
+    given(&q, sizeof q);
+    given(lengths, sizeof lengths);
+    given_number((int64_t)bests_len);
+    given(records, records_len * sizeof *records);
+}
+
 static void asked(const char *what, uint32_t number) {
     const uint8_t *bytes = zero_bytes();
     mark(bests, NUMBERS * MOST);
     memcpy(before, records, sizeof records);
+    begin(what);
     uint32_t answered = hirupango_evaluate(q, records, records_len, bytes, lengths[0], bytes, lengths[1], bytes, lengths[2], bytes,
                                            lengths[3], bytes, lengths[4], bytes, lengths[5], bests, bests_len);
     size_t n = answered == 0 ? records_len / WORDS : 0;
-    expect(answered == number, what, answered, number);
-    expect(marked(bests, NUMBERS * n, NUMBERS * MOST), what, -1, number);
-    expect(memcmp(records, before, sizeof records) == 0, what, -2, number);
-    int all = 1;
-    for (size_t i = 0; i < n; i++) all = all && is_best(records + WORDS * i, bests + NUMBERS * i);
-    expect(all, what, -3, number);
+    expect(answered == number, "number", answered, number);
+    expect(marked(bests, NUMBERS * n, NUMBERS * MOST), "what is behind the bests has changed", 1, 0);
+    expect(memcmp(records, before, sizeof records) == 0, "the records have changed", 1, 0);
+    for (size_t i = 0; i < n; i++) expect(is_best(records + WORDS * i, bests + NUMBERS * i), "a record's best", (long)i, bests[NUMBERS * i]);
 }
 
 /* The base with one change, and the number that it must be given. */
@@ -196,7 +203,6 @@ static void sides_of_planes(void) {
 
 static void pitches(void) {
     for (int at = 0; at < PLANES; at++) {
-        TRY(0, (plane(at)->pitch = plane(at)->width, fit_lengths()));
         TRY(2, plane(at)->pitch = plane(at)->width - 1);
         TRY(0, (plane(at)->pitch = 65536, fit_lengths()));
         TRY(2, (plane(at)->pitch = 65537, fit_lengths()));
@@ -246,9 +252,10 @@ static void room(void) {
     TRY(0, records_len = bests_len = 0);
     base();
     const uint8_t *bytes = zero_bytes();
+    new_case("evaluate", "null");
     uint32_t number = hirupango_evaluate(q, NULL, 0, bytes, lengths[0], bytes, lengths[1], bytes, lengths[2], bytes, lengths[3], bytes,
                                          lengths[4], bytes, lengths[5], NULL, 0);
-    expect(number == 0, "null", number, 0);
+    expect(number == 0, "number", number, 0);
 }
 
 /* ---- 7 */
@@ -309,7 +316,6 @@ static void spoil(uint32_t number) {
 
 static void several(void) {
     for (int low = 0; low < 5; low++) {
-        TRY(GIVEN[low], spoil(GIVEN[low]));
         for (int high = low + 1; high < 5; high++) TRY(GIVEN[low], (spoil(GIVEN[low]), spoil(GIVEN[high])));
         base();
         for (int at = low; at < 5; at++) spoil(GIVEN[at]);

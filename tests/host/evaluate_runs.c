@@ -29,11 +29,16 @@ static void best(const char *what, struct search s, int32_t x, int32_t y, int32_
     int32_t corner = pair(AT * s.pel, AT * s.pel), origin = AT * SIDE + AT;
     int32_t record[WORDS] = {origin,      INT32_MIN,  origin,     origin, origin,          corner, corner,
                              s.predictor, s.window_x, s.window_y, 0,      s.lambda * 4 + 1};
-    int32_t expected[4] = {x, y, sad, 0}, found[4] = {-1, -1, -1, -1};
+    int32_t expected[4] = {x, y, sad, 0}, found[2 * 4];
+    mark(found, 2 * 4);
+    new_case("evaluate", what);
+    given(&s, sizeof s);
+    given(luma, BYTES);
     uint32_t number = hirupango_evaluate(q, record, WORDS, source, BYTES, source, BYTES, source, BYTES, luma, BYTES, u, BYTES, v, BYTES,
                                          found, 4);
-    expect(number == 0, what, number, 0);
-    for (int i = 0; i < 4; i++) expect(found[i] == expected[i], what, found[i], expected[i]);
+    expect(number == 0, "number", number, 0);
+    for (int i = 0; i < 4; i++) expect(found[i] == expected[i], "x, y, SAD or average", found[i], expected[i]);
+    expect(marked(found, 4, 2 * 4), "what is behind the best has changed", 1, 0);
 }
 
 /* Of row 0 only vector 0 passes the distance test: the others cost 100 and more, and the least cost is the predictor's 50. At pel 1 it

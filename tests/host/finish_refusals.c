@@ -44,17 +44,27 @@ static int stored(size_t block) {
            (uint32_t)output[2 * block + 1] >> 24 == ((uint32_t)best[3] & 255);
 }
 
+static void begin(const char *what) {
+    const size_t lengths[] = {indices_len, bests_len, vectors_len, output_len};
+    const int32_t numbers[] = {nx, ny, diagonal, output_asked};
+    new_case("finish", what);
+    given(numbers, sizeof numbers);
+    given(lengths, sizeof lengths);
+    given(indices, indices_len * sizeof *indices);
+    given(bests, bests_len * sizeof *bests);
+}
+
 static void asked(const char *what, uint32_t number) {
     mark(vectors, 3 * MOST);
     mark(output, 2 * MOST);
+    begin(what);
     uint32_t answered = hirupango_finish(nx, ny, indices, indices_len, bests, bests_len, diagonal, output_asked, vectors,
                                          vectors_len, output, output_len);
-    expect(answered == number, what, answered, number);
+    expect(answered == number, "number", answered, number);
     size_t n = answered == 0 ? (size_t)nx * (size_t)ny : 0;
-    expect(marked(vectors, 3 * n, 3 * MOST) && marked(output, 2 * n, 2 * MOST), what, -1, number);
-    int all = 1;
-    for (size_t block = 0; block < n; block++) all = all && stored(block);
-    expect(all, what, -2, number);
+    expect(marked(vectors, 3 * n, 3 * MOST), "what is behind the vectors has changed", 1, 0);
+    expect(marked(output, 2 * n, 2 * MOST), "what is behind the output has changed", 1, 0);
+    for (size_t block = 0; block < n; block++) expect(stored(block), "what is stored of a block", (long)block, 0);
 }
 
 /* The base with one change, and the number that it must be given. */
@@ -106,6 +116,16 @@ static void outside_the_grid(void) {
 }
 
 /* ---- 5 */
+/* Vectors alone: where no index names a block, nothing is stored. */
+static void nothing_lent(uint32_t number, bool asks) {
+    mark(vectors, 3 * MOST);
+    new_case("finish", asks ? "null, output asked for" : "null");
+    given_number(asks);
+    uint32_t answered = hirupango_finish(2, 2, NULL, 0, NULL, 0, 1, asks, vectors, 12, NULL, 0);
+    expect(answered == number, "number", answered, number);
+    expect(marked(vectors, 0, 3 * MOST), "the vectors have changed", 1, 0);
+}
+
 static void room(void) {
     TRY(5, output_len--);
     TRY(0, output_len++);
@@ -122,9 +142,8 @@ static void room(void) {
     TRY(5, indices_len = 0);
     TRY(0, indices_len = bests_len = 0);
     TRY(0, (indices_len = 2, bests_len = 8));
-    base();
-    expect(hirupango_finish(2, 2, NULL, 0, NULL, 0, 1, false, vectors, 12, NULL, 0) == 0, "null", 0, 0);
-    expect(hirupango_finish(2, 2, NULL, 0, NULL, 0, 1, true, vectors, 12, NULL, 0) == 5, "null, output asked for", 0, 0);
+    nothing_lent(0, false);
+    nothing_lent(5, true);
 }
 
 /* ---- 7 */

@@ -53,33 +53,45 @@ static void start(void) {
     mark(output, 2 * BLOCKS);
 }
 
-static uint32_t plan(struct hirupango_settings s) {
-    return hirupango_plan(s, order, 2 * BLOCKS, vectors, 3 * BLOCKS, luma, sizeof luma, u, sizeof u, v, sizeof v, records,
-                          WORDS * BLOCKS, indices, BLOCKS);
+/* The three calls, each a case of its own. Its inputs are the ones lent here, and what makes it another than those before. */
+static void plan(uint32_t number, const char *what, struct hirupango_settings s) {
+    new_case("plan", what);
+    given(order, sizeof order);
+    given_number(s.search.search_param);
+    uint32_t answered = hirupango_plan(s, order, 2 * BLOCKS, vectors, 3 * BLOCKS, luma, sizeof luma, u, sizeof u, v, sizeof v, records,
+                                       WORDS * BLOCKS, indices, BLOCKS);
+    expect(answered == number, "number", answered, number);
 }
 
-static uint32_t evaluate(struct hirupango_settings s) {
+static void evaluate(uint32_t number, const char *what, struct hirupango_settings s) {
+    new_case("evaluate", what);
+    given(records, sizeof records);
+    given_number(s.search.search_param);
     struct hirupango_request q = {false, s.block, s.shift, s.search.search_param, 0, 1, {s.planes.luma, s.planes.u, s.planes.v},
                                   {s.planes.luma, s.planes.u, s.planes.v}};
-    return hirupango_evaluate(q, records, WORDS * BLOCKS, luma, sizeof luma, u, sizeof u, v, sizeof v, next_luma, sizeof next_luma,
-                              next_u, sizeof next_u, next_v, sizeof next_v, bests, 4 * BLOCKS);
+    uint32_t answered = hirupango_evaluate(q, records, WORDS * BLOCKS, luma, sizeof luma, u, sizeof u, v, sizeof v, next_luma, sizeof next_luma,
+                                           next_u, sizeof next_u, next_v, sizeof next_v, bests, 4 * BLOCKS);
+    expect(answered == number, "number", answered, number);
 }
 
-static uint32_t finish(void) {
-    return hirupango_finish(GRID, GRID, indices, BLOCKS, bests, 4 * BLOCKS, 67, true, vectors, 3 * BLOCKS, output, 2 * BLOCKS);
+static void finish(uint32_t number, const char *what) {
+    new_case("finish", what);
+    given(bests, sizeof bests);
+    uint32_t answered = hirupango_finish(GRID, GRID, indices, BLOCKS, bests, 4 * BLOCKS, 67, true, vectors, 3 * BLOCKS, output, 2 * BLOCKS);
+    expect(answered == number, "number", answered, number);
 }
 
 static void the_pass(void) {
     struct hirupango_settings s = settings();
     start();
-    expect(plan(s) == 0, "frame pair: plan", 0, 0);
-    expect(evaluate(s) == 0, "frame pair: evaluate", 0, 0);
-    expect(finish() == 0, "frame pair: finish", 0, 0);
+    plan(0, "frame pair", s);
+    evaluate(0, "frame pair", s);
+    finish(0, "frame pair");
     for (int y = 0; y < INSIDE; y++)
         for (int x = 0; x < INSIDE; x++) {
             const int32_t *vector = vectors + 3 * (y * GRID + x);
-            expect(vector[0] == MOTION && vector[1] == MOTION && vector[2] == 0, "frame pair: the motion is found", x, y);
-            expect(output[2 * (y * GRID + x)] == MOTION * 65536 + MOTION, "frame pair: its output word", x, y);
+            expect(vector[0] == MOTION && vector[1] == MOTION && vector[2] == 0, "the motion is found", x, y);
+            expect(output[2 * (y * GRID + x)] == MOTION * 65536 + MOTION, "its output word", x, y);
         }
 }
 
@@ -90,9 +102,9 @@ static void stale(void) {
     order[0] = INSIDE;
     order[1] = 0;
     order[2] = order[3] = 1;
-    expect(plan(s) == 0, "frame pair: stale plan", 0, 0);
-    expect(records[WORDS] == 8 * INSIDE, "frame pair: full is the moved block's origin", records[WORDS], 8 * INSIDE);
-    expect(records[WORDS + 4] == 8 * SIDE + 8, "frame pair: the average's origin is its own", records[WORDS + 4], 8 * SIDE + 8);
+    plan(0, "frame pair, a block inside behind a moved one", s);
+    expect(records[WORDS] == 8 * INSIDE, "full is the moved block's origin", records[WORDS], 8 * INSIDE);
+    expect(records[WORDS + 4] == 8 * SIDE + 8, "the average's origin is its own", records[WORDS + 4], 8 * SIDE + 8);
 }
 
 /* Each step refused: its number, and nothing written. */
@@ -102,14 +114,19 @@ static void refused(void) {
     start();
     mark(records, WORDS * BLOCKS);
     mark(indices, BLOCKS);
-    expect(plan(wide) == 1 && marked(records, 0, WORDS * BLOCKS) && marked(indices, 0, BLOCKS), "frame pair: plan refused", 0, 0);
-    expect(plan(s) == 0, "frame pair: plan again", 0, 0);
+    plan(1, "frame pair, refused", wide);
+    expect(marked(records, 0, WORDS * BLOCKS), "the records have changed", 1, 0);
+    expect(marked(indices, 0, BLOCKS), "the indices have changed", 1, 0);
+    plan(0, "frame pair, again", s);
     mark(bests, 4 * BLOCKS);
-    expect(evaluate(wide) == 1 && marked(bests, 0, 4 * BLOCKS), "frame pair: evaluate refused", 0, 0);
-    expect(evaluate(s) == 0, "frame pair: evaluate again", 0, 0);
+    evaluate(1, "frame pair, refused", wide);
+    expect(marked(bests, 0, 4 * BLOCKS), "the bests have changed", 1, 0);
+    evaluate(0, "frame pair, again", s);
     bests[4 * (BLOCKS - 1)] = 32768;
     mark(vectors, 3 * BLOCKS);
-    expect(finish() == 7 && marked(vectors, 0, 3 * BLOCKS) && marked(output, 0, 2 * BLOCKS), "frame pair: finish refused", 0, 0);
+    finish(7, "frame pair, refused");
+    expect(marked(vectors, 0, 3 * BLOCKS), "the vectors have changed", 1, 0);
+    expect(marked(output, 0, 2 * BLOCKS), "the output has changed", 1, 0);
 }
 
 void frame_pair_tests(void) {

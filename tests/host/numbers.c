@@ -4,19 +4,25 @@
 enum { ROOM = 8, MOST = 2 * 2049 * 2 + 4 };
 
 static void diagonal(uint32_t number, uint32_t value, int32_t width, int32_t height, int32_t pel, size_t room) {
+    const int64_t numbers[] = {width, height, pel, (int64_t)room};
     uint8_t before[ROOM], out[ROOM];
+    new_case("diagonal", "sides, pel or room");
+    given(numbers, sizeof numbers);
     memset(before, 0x3c, ROOM);
     memcpy(out, before, ROOM);
     uint32_t answered = hirupango_diagonal(width, height, pel, out, room);
-    expect_answer("diagonal", number, answered, value, before, out, ROOM);
+    expect_answer(number, answered, value, before, out, ROOM);
 }
 
 static void slots(uint32_t number, uint32_t value, int32_t search_param, size_t room) {
     uint8_t before[ROOM], out[ROOM];
+    new_case("slots", "search_param or room");
+    given_number(search_param);
+    given_number((int64_t)room);
     memset(before, 0xc3, ROOM);
     memcpy(out, before, ROOM);
     uint32_t answered = hirupango_slots(search_param, out, room);
-    expect_answer("slots", number, answered, value, before, out, ROOM);
+    expect_answer(number, answered, value, before, out, ROOM);
 }
 
 static void diagonals(void) {
@@ -50,18 +56,34 @@ static void slot_counts(void) {
 
 static int32_t order[MOST];
 
+/* Whether every block of the grid is in the order. As many entries as blocks: so each is there once. */
+static int each_once(int32_t nx, int32_t ny) {
+    static uint8_t there[MOST];
+    memset(there, 0, sizeof there);
+    for (int32_t i = 0; i < nx * ny; i++) {
+        int32_t x = order[2 * i], y = order[2 * i + 1];
+        if (x < 0 || x >= nx || y < 0 || y >= ny || there[y * nx + x]++) return 0;
+    }
+    return 1;
+}
+
 static void serpentine(uint32_t number, int32_t nx, int32_t ny, size_t length) {
     mark(order, MOST);
+    new_case("serpentine order", "sides or room");
+    given_number(nx);
+    given_number(ny);
+    given_number((int64_t)length);
     uint32_t answered = hirupango_serpentine_order(nx, ny, order, length);
-    expect(answered == number, "serpentine order", answered, number);
+    expect(answered == number, "number", answered, number);
     size_t written = number == 0 ? (size_t)(2 * nx * ny) : 0;
-    expect(marked(order, written, MOST), "serpentine order keeps the rest", nx, ny);
+    expect(marked(order, written, MOST), "what is behind the order has changed", nx, ny);
+    if (written > 0) expect(each_once(nx, ny), "each block is there once", nx, ny);
 }
 
 static void serpentines(void) {
     const int32_t of_4x3[] = {2, 1, 1, 1, 0, 0, 0, 2, 1, 0, 1, 2, 2, 0, 2, 2, 3, 0, 3, 2, 0, 1, 3, 1};
     serpentine(0, 4, 3, 24);
-    expect(memcmp(order, of_4x3, sizeof of_4x3) == 0, "serpentine order of 4x3", 0, 0);
+    expect(memcmp(order, of_4x3, sizeof of_4x3) == 0, "the order of 4x3", 1, 0);
     serpentine(0, 4, 3, 30);
     serpentine(5, 4, 3, 23);
     serpentine(5, 2, 2, 0);
@@ -76,7 +98,9 @@ static void serpentines(void) {
     serpentine(2, 2049, 2, MOST);
     serpentine(2, 2, 2049, MOST);
     serpentine(2, INT32_MAX, INT32_MAX, 0);
-    expect(hirupango_serpentine_order(2, 2, NULL, 0) == 5, "null", 0, 0);
+    new_case("serpentine order", "null");
+    uint32_t number = hirupango_serpentine_order(2, 2, NULL, 0);
+    expect(number == 5, "number", number, 5);
 }
 
 void numbers_tests(void) {

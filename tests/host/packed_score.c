@@ -5,11 +5,14 @@ enum { ROOM = 8 };
 
 static void asked(const char *what, uint32_t number, uint32_t value, int32_t x, int32_t y, int32_t sad, int32_t diagonal,
                   int32_t average, size_t room) {
+    const int64_t numbers[] = {x, y, sad, diagonal, average, (int64_t)room};
     uint8_t before[ROOM], out[ROOM];
+    new_case("packed score", what);
+    given(numbers, sizeof numbers);
     memset(before, 0xa5, ROOM);
     memcpy(out, before, ROOM);
     uint32_t answered = hirupango_packed_score(x, y, sad, diagonal, average, out, room);
-    expect_answer(what, number, answered, value, before, out, ROOM);
+    expect_answer(number, answered, value, before, out, ROOM);
 }
 
 void packed_score_tests(void) {
@@ -34,5 +37,7 @@ void packed_score_tests(void) {
         asked("diagonal least", 2, 0, 0, inside[i], 100, INT32_MIN, 0, ROOM);
     }
     for (size_t room = 0; room <= 5; room++) asked("room", room < 4 ? 5 : 0, 100, 661, 0, 100, 4404, 0, room);
-    expect(hirupango_packed_score(0, 0, 0, 1, 0, NULL, 0) == 5, "null", 0, 0);
+    new_case("packed score", "null");
+    uint32_t number = hirupango_packed_score(0, 0, 0, 1, 0, NULL, 0);
+    expect(number == 5, "number", number, 5);
 }

@@ -70,20 +70,31 @@ static int written(size_t n) {
     return 1;
 }
 
+static void begin(const char *what) {
+    const size_t lengths[] = {order_len, vectors_len, luma_len, u_len, v_len, records_len, indices_len};
+    new_case("plan", what);
+    given(&s, sizeof s);
+    given(lengths, sizeof lengths);
+    given(order, order_len * sizeof *order);
+    given(vectors, vectors_len * sizeof *vectors);
+}
+
 static void asked(const char *what, uint32_t number) {
     const uint8_t *bytes = unread_bytes();
     mark(records, WORDS * MOST);
     mark(indices, MOST);
     memcpy(order_before, order, sizeof order);
     memcpy(vectors_before, vectors, sizeof vectors);
+    begin(what);
     uint32_t answered = hirupango_plan(s, order, order_len, vectors, vectors_len, bytes, luma_len, bytes, u_len, bytes, v_len,
                                        records, records_len, indices, indices_len);
     size_t n = answered == 0 ? order_len / 2 : 0;
-    expect(answered == number, what, answered, number);
-    expect(marked(records, WORDS * n, WORDS * MOST) && marked(indices, n, MOST), what, -1, number);
-    expect(memcmp(order, order_before, sizeof order) == 0 && memcmp(vectors, vectors_before, sizeof vectors) == 0, what, -2,
-           number);
-    expect(written(n), what, -3, number);
+    expect(answered == number, "number", answered, number);
+    expect(marked(records, WORDS * n, WORDS * MOST), "what is behind the records has changed", 1, 0);
+    expect(marked(indices, n, MOST), "what is behind the indices has changed", 1, 0);
+    expect(memcmp(order, order_before, sizeof order) == 0, "the order has changed", 1, 0);
+    expect(memcmp(vectors, vectors_before, sizeof vectors) == 0, "the vectors have changed", 1, 0);
+    if (n > 0) expect(written(n), "records or indices", 1, 0);
 }
 
 /* The base with one change, and the number that it must be given. */
@@ -91,7 +102,6 @@ static void asked(const char *what, uint32_t number) {
 
 /* ---- 1 */
 static void search_and_block(void) {
-    TRY(0, s.search.exhaustive = true);
     TRY(1, s.search.exhaustive = false);
     for (int32_t radius = -5; radius <= 5; radius++) TRY(radius < -3 || radius > 3, s.search.search_param = radius);
     for (int i = 0; i < 3; i++) TRY(i == 1 ? 0 : 1, s.search.search_param = ENDS[i]);
@@ -201,7 +211,6 @@ static void chroma_sides(void) {
 
 static void pitches(void) {
     for (int at = 0; at <= 2; at++) {
-        TRY(0, (plane(at)->pitch = plane(at)->width, fit_lengths()));
         TRY(2, plane(at)->pitch = plane(at)->width - 1);
         TRY(0, (plane(at)->pitch = 65536, fit_lengths()));
         TRY(2, (plane(at)->pitch = 65537, fit_lengths()));
@@ -262,14 +271,12 @@ static void lengths(void) {
 /* ---- 4 */
 static void entries(void) {
     for (size_t at = 0; at < 8; at++) {
-        TRY(4, order[at] = -1);
         TRY(0, order[at] = 0);
         TRY(0, order[at] = 1);
+        /* for the first entry this would be the place of (0,1), were it not asked about */
         TRY(4, order[at] = 2);
         for (int i = 0; i < 3; i++) TRY(4, order[at] = ENDS[i]);
     }
-    /* the place of (0,1), were it not asked about */
-    TRY(4, (order[0] = 2, order[1] = 0));
     TRY(0, (grid(3, 2), order[0] = 2));
     TRY(4, (grid(3, 2), order[1] = 2));
     TRY(0, (grid(2, 3), order[1] = 2));
@@ -286,9 +293,9 @@ static void room(void) {
     TRY(5, indices_len = 0);
     base();
     const uint8_t *bytes = unread_bytes();
-    expect(hirupango_plan(s, order, order_len, vectors, vectors_len, bytes, luma_len, bytes, u_len, bytes, v_len, NULL, 0, NULL,
-                          0) == 5,
-           "null", 0, 0);
+    new_case("plan", "null");
+    uint32_t number = hirupango_plan(s, order, order_len, vectors, vectors_len, bytes, luma_len, bytes, u_len, bytes, v_len, NULL, 0, NULL, 0);
+    expect(number == 5, "number", number, 5);
 }
 
 /* ---- 6 */
@@ -377,7 +384,6 @@ static void spoil(uint32_t number) {
 
 static void several(void) {
     for (uint32_t low = 1; low <= 6; low++) {
-        TRY(low, spoil(low));
         for (uint32_t high = low + 1; high <= 6; high++) TRY(low, (spoil(low), spoil(high)));
         base();
         for (uint32_t number = low; number <= 6; number++) spoil(number);
@@ -398,8 +404,9 @@ static void run_of_three(void) {
     asked("run of three", 0);
     for (int i = 0; i < 3; i++) {
         const int32_t *record = records + WORDS * i;
-        expect(record[0] == full[i], "run of three, full", record[0], full[i]);
-        expect(record[2] == chroma[i] && record[3] == chroma[i], "run of three, chroma", record[2], chroma[i]);
+        expect(record[0] == full[i], "full", record[0], full[i]);
+        expect(record[2] == chroma[i], "u", record[2], chroma[i]);
+        expect(record[3] == chroma[i], "v", record[3], chroma[i]);
     }
 }
 

@@ -24,7 +24,8 @@ fn read_cost(numbers: &mut Numbers<'_>) -> Result<Work, Fault> {
     let a: Vec<u8> = numbers.many(width * height)?;
     let b: Vec<u8> = numbers.many(width * height)?;
     Ok(Box::new(move || {
-        vec![i64::from(inside::block_cost(satd, width, height, &a, &b))]
+        let cost = inside::block_cost(satd, (width, height), width, &a, &b);
+        vec![i64::from(cost)]
     }))
 }
 

@@ -61,13 +61,20 @@ pub(crate) fn unrecord(words: &[i32]) -> [i32; 18] {
     ]
 }
 
-pub(crate) fn block_cost(satd: bool, width: usize, height: usize, a: &[u8], b: &[u8]) -> u32 {
-    let of = |block: &[u8], y: usize, x: usize| i32::from(block[y * width + x]);
-    cost(satd, width, height, |y, x| of(a, y, x), |y, x| of(b, y, x))
+pub(crate) fn block_cost(
+    satd: bool,
+    size: (usize, usize),
+    pitch: usize,
+    a: &[u8],
+    b: &[u8],
+) -> u32 {
+    let of = |block: &[u8], y: usize, x: usize| i32::from(block[y * pitch + x]);
+    cost(satd, size.0, size.1, |y, x| of(a, y, x), |y, x| of(b, y, x))
 }
 
-pub(crate) fn score(x: i16, y: i16, sad: i32, diagonal: i32, average: i32) -> i32 {
-    packed_score(Mv { x, y, sad }, diagonal, average) as i32
+/// `Mv::new` cuts a component that is beyond i16.
+pub(crate) fn score(x: i32, y: i32, sad: i32, diagonal: i32, average: i32) -> i32 {
+    packed_score(Mv::new(x, y, sad), diagonal, average) as i32
 }
 
 /// A field of a grid alone: the serpentine and finishing look at nothing else of it.
@@ -104,14 +111,21 @@ pub(crate) struct Planned {
 }
 
 pub(crate) fn plan(case: &PlanCase, source: &LevelFrame<'_>) -> Option<Planned> {
+    let (done, planned) = plan_as_left(case, source);
+    done.then_some(planned)
+}
+
+/// Whether it plans, and what is in the plan afterwards, also where it does not.
+pub(crate) fn plan_as_left(case: &PlanCase, source: &LevelFrame<'_>) -> (bool, Planned) {
     let mut plan = RecalcPlan::default();
     let done = field(case).plan_recalculate(source, &settings(case), case.need_luma, &mut plan);
-    done.then_some(Planned {
+    let planned = Planned {
         slots: plan.slots,
         diagonal: plan.diagonal,
         records: plan.records,
         indices: plan.indices,
-    })
+    };
+    (done, planned)
 }
 
 fn field(case: &PlanCase) -> Field {
@@ -204,16 +218,41 @@ pub(crate) fn choose(case: &ChooseCase) -> [i32; 4] {
 
 /// The vectors of the whole grid and, where asked for, the output's words; all start at 0.
 pub(crate) fn finish(case: &FinishCase) -> (Vec<(i16, i16, i32)>, Vec<u32>) {
-    let plan = RecalcPlan {
-        indices: case.indices.clone(),
-        diagonal: case.diagonal,
-        ..RecalcPlan::default()
-    };
-    let mut field = grid(case.grid.0, case.grid.1, false);
-    let words = if case.output { 2 * field.count() } else { 0 };
-    let mut output = vec![0; words];
-    let asked = case.output.then_some(output.as_mut_slice());
-    field.finish_recalculate(&plan, &case.bests, asked);
-    let vectors = field.vectors.iter().map(|mv| (mv.x, mv.y, mv.sad));
-    (vectors.collect(), output)
+    let blocks = (case.grid.0 * case.grid.1) as usize;
+    let words = if case.output { 2 * blocks } else { 0 };
+    let mut finished = Finished::new(case.grid, blocks, words);
+    finished.finish(case);
+    (finished.vectors(), finished.words)
+}
+
+/// What finishing writes, of any lengths, held apart from the call: so it can be seen after a stop too.
+pub(crate) struct Finished {
+    field: Field,
+    pub(crate) words: Vec<u32>,
+}
+
+impl Finished {
+    pub(crate) fn new((nx, ny): (i32, i32), vectors: usize, words: usize) -> Self {
+        let mut field = grid(nx, ny, false);
+        field.vectors.resize(vectors, Mv::default());
+        Self {
+            field,
+            words: vec![0; words],
+        }
+    }
+
+    pub(crate) fn finish(&mut self, case: &FinishCase) {
+        let plan = RecalcPlan {
+            indices: case.indices.clone(),
+            diagonal: case.diagonal,
+            ..RecalcPlan::default()
+        };
+        let asked = case.output.then_some(self.words.as_mut_slice());
+        self.field.finish_recalculate(&plan, &case.bests, asked);
+    }
+
+    pub(crate) fn vectors(&self) -> Vec<(i16, i16, i32)> {
+        let vectors = self.field.vectors.iter();
+        vectors.map(|mv| (mv.x, mv.y, mv.sad)).collect()
+    }
 }

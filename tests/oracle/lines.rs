@@ -77,13 +77,14 @@ pub(crate) fn answered(kind: &Kind, line: &str) -> Result<String, Fault> {
     let mut numbers = Numbers::new(inputs);
     let work = (kind.read)(&mut numbers)?;
     numbers.end()?;
-    let answers = run(work).map_or("stopped".into(), |answers| joined(&answers));
+    let answers = watched(work).map_or("stopped".into(), |answers| joined(&answers));
     Ok(format!("{inputs} = {answers}").trim_end().into())
 }
 
 static RUNNING: AtomicBool = AtomicBool::new(false);
 
-fn run(work: Work) -> Option<Vec<i64>> {
+/// What the Rust answers, or nothing where it stops.
+pub(crate) fn watched<T>(work: impl FnOnce() -> T) -> Option<T> {
     RUNNING.store(true, Ordering::Relaxed);
     let answers = panic::catch_unwind(AssertUnwindSafe(work)).ok();
     RUNNING.store(false, Ordering::Relaxed);

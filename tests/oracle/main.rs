@@ -20,6 +20,8 @@ mod finish;
 mod free_records;
 mod kinds;
 mod lines;
+mod outside;
+mod outside_cases;
 mod packing;
 mod pass;
 mod plan;
@@ -58,6 +60,11 @@ fn command(words: &[&str]) -> io::Result<()> {
         ["answer", kind] => answer(known(kind)?, &mut out)?,
         ["make", kind, seed, count] => make(known(kind)?, number(seed)?, number(count)?, &mut out)?,
         ["limits", kind] => limits(known(kind)?, &mut out)?,
+        ["outside"] => writeln!(out, "{}", outside::names().join("\n"))?,
+        ["outside", name] => match outside::line(name) {
+            Some(line) => writeln!(out, "{line}")?,
+            None => return Err(fault(format!("no case {name}"))),
+        },
         _ => return Err(fault(usage())),
     }
     out.flush()
@@ -118,7 +125,7 @@ fn within(fault: io::Error, place: &str) -> io::Error {
 fn usage() -> String {
     let names: Vec<&str> = KINDS.iter().map(|kind| kind.name).collect();
     format!(
-        "answer KIND | make KIND SEED COUNT | limits KIND, with KIND one of {}",
+        "answer KIND | make KIND SEED COUNT | limits KIND | outside [NAME], with KIND one of {}",
         names.join(" ")
     )
 }

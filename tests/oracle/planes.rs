@@ -92,7 +92,11 @@ impl Fill {
         (g / 16_777_216 * u64::from(self.levels) / 256) as u8
     }
 
+    /// Where all are 0 they are not touched, so that there may be very many.
     pub(crate) fn bytes(self, length: usize) -> Vec<u8> {
+        if self.levels == 1 {
+            return vec![0; length];
+        }
         (0..length as u64).map(|index| self.byte(index)).collect()
     }
 }

@@ -23,10 +23,11 @@ pub(crate) const ROOT: Kind = Kind {
 const GREATEST_SQUARE_SUM: i64 = 1 << 29;
 
 fn read_score(numbers: &mut Numbers<'_>) -> Result<Work, Fault> {
-    let (x, y) = numbers.two()?;
+    let (x, y): (i16, i16) = numbers.two()?;
     let (sad, diagonal, average) = (numbers.take()?, numbers.take()?, numbers.take()?);
     Ok(Box::new(move || {
-        vec![i64::from(inside::score(x, y, sad, diagonal, average))]
+        let score = inside::score(x.into(), y.into(), sad, diagonal, average);
+        vec![i64::from(score)]
     }))
 }
 
