@@ -1,6 +1,8 @@
 // Replays the Rust's frozen answers, and compares: a line of a case begins with the word of its kind.
 // Names each line that differs; the last line counts.
 use cases::Tally;
+ghost use Prim.Native.Nat.{_≤_};
+ghost use lib.ListN.{length};
 
 // What was asked of the Rust, by the oracle's names. A word that is none of them is a kind that no line
 // of agrees with.
@@ -109,9 +111,10 @@ fn agrees(kind: Kind, n: &[i64; 8200], inputs: usize, count: usize) -> bool {
     }
 }
 
-fn replay(text: &[u8]) -> Tally {
+// The tally after the lines of a text.
+fn replayed(text: &[u8], before: Tally) -> Tally {
     let mut numbers = [0i64; 8200];
-    let mut tally = cases::no_lines();
+    let mut tally = before;
     let mut at: usize = 0;
     while at < text.len() {
         let line = cases::next_line(text, at, &mut numbers);
@@ -124,10 +127,55 @@ fn replay(text: &[u8]) -> Tally {
     tally
 }
 
+// Where the last line that ends among the first n bytes does, or n where none does.
+fn lines_end(text: &[u8], n: usize) -> usize
+    requires { ⌜ n ≤ length (now text) ⌝ }
+    ensures { λ r. ⌜ r ≤ n ⌝ }
+{
+    let mut end = n;
+    while 0 < end {
+        if text[end - 1] == b'\n' {
+            return end;
+        }
+        end -= 1;
+    }
+    n
+}
+
+// Moves the bytes between two places to the front; answers how many they are.
+fn moved(text: &mut [u8], from: usize, to: usize) -> usize
+    requires { ⌜ (from ≤ to) × (to ≤ length (now text)) ⌝ }
+    ensures { λ r. ⌜ r ≤ length (now (text .exit)) ⌝ }
+{
+    let mut k: usize = 0;
+    while k < to - from {
+        text[k] = text[from + k];
+        k += 1;
+    }
+    k
+}
+
+// The input in parts as long as the text that is lent, since no array as long as all vectors is proved.
+// A line that a part cuts goes with the next part. Where nothing is left a part is empty, and there are
+// far fewer parts than turns.
+fn replay(text: &mut [u8]) -> Tally {
+    let mut tally = cases::no_lines();
+    let mut held: usize = 0;
+    for turn in 0u64..65536 {
+        let n = held + io::read_full(0, &mut text[held..]);
+        if n == 0 {
+            return tally;
+        }
+        let end = lines_end(text, n);
+        tally = replayed(&text[..end], tally);
+        held = moved(text, end, n);
+    }
+    tally
+}
+
 fn main() {
-    let mut text = [0u8; 2097152];
-    let n = io::read_full(0, &mut text);
-    let tally = replay(&text[..n]);
+    let mut text = [0u8; 262144];
+    let tally = replay(&mut text);
     io::print_decimal(1, tally.cases);
     io::write_all(1, b" cases, ");
     io::print_decimal(1, tally.differ);

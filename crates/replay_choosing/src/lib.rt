@@ -6,26 +6,17 @@ use records::Record;
 use records::Words;
 ghost use mathlib.Core.Path.{_≡_};
 ghost use mathlib.Core.Bool.{true};
-ghost use Prim.Native.Nat.{_+_, _≤_, _<_};
+ghost use Prim.Native.Nat.{_≤_, _<_};
 ghost use Rattle.choosing.specs.Bounds.{Small, Ranged, Served};
+ghost use Rattle.cases.specs.Places.{Sized};
+ghost use Rattle.replay_choosing.specs.Sizes.{slotsOf, chooseInputs};
 
-// How many entries a table has, 1 + (2 x radius + 1)^2; none for a radius that is not accepted.
-fn slots(radius: i64) -> usize
-    ensures { λ r. ⌜ r ≤ 50 ⌝ }
+// How many entries a table has.
+fn slots(radius: usize) -> usize
+    requires { ⌜ radius ≤ 3 ⌝ }
+    ensures { λ r. ⌜ (r ≡ slotsOf radius) × (r ≤ 50) ⌝ }
 {
-    if radius == 0 {
-        return 2;
-    }
-    if radius == 1 {
-        return 10;
-    }
-    if radius == 2 {
-        return 26;
-    }
-    if radius == 3 {
-        return 50;
-    }
-    0
+    1 + (2 * radius + 1) * (2 * radius + 1)
 }
 
 // What chroma is scaled by, 4^shift; 0 for a shift that is not accepted.
@@ -177,13 +168,14 @@ fn is_choice(numbers: &[i64; 8200], n: usize, by: u32) -> bool
 
 // A line whose numbers are out of range differs.
 pub fn choose_agrees(numbers: &[i64; 8200], inputs: usize, count: usize) -> bool
-    ensures { λ r. ⌜ (r ≡ true → count ≡ inputs + 4) ⌝ }
+    ensures { λ r. ⌜ (r ≡ true → Sized (chooseInputs (now (numbers .entry))) 4 inputs count) ⌝ }
 {
-    let n = slots(numbers[3]);
+    let radius = cases::limited(numbers[3], 3);
+    let n = slots(radius);
     let by = scale(numbers[1]);
-    if (n == 0) | (by == 0) {
+    if by == 0 {
         return false;
     }
-    let costs = are_costs(numbers, 2 * n);
-    cases::sized(inputs, count, 17 + 2 * n, 4) & (costs & is_choice(numbers, n, by))
+    let told = (numbers[3] == radius as i64) & are_costs(numbers, 2 * n);
+    cases::sized(inputs, count, 17 + 2 * n, 4) & (told & is_choice(numbers, n, by))
 }

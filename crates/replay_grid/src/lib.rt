@@ -6,9 +6,10 @@ use serpentine::Block;
 use serpentine::Position;
 ghost use mathlib.Core.Path.{_≡_};
 ghost use mathlib.Core.Bool.{true};
-ghost use Prim.Native.Nat.{_+_, _<_, _≤_};
+ghost use Prim.Native.Nat.{_+_, _*_, _<_, _≤_};
 ghost use lib.ListN.{length};
 ghost use Rattle.cases.specs.Places.{Sized};
+ghost use Rattle.replay_grid.specs.Sizes.{blocksOf, outputOf, finishInputs, finishAnswers};
 
 pub fn serpentine_position_agrees(numbers: &[i64; 8200], inputs: usize, count: usize) -> bool
     ensures { λ r. ⌜ (r ≡ true → Sized 4 1 inputs count) ⌝ }
@@ -39,7 +40,7 @@ pub fn serpentine_block_agrees(numbers: &[i64; 8200], inputs: usize, count: usiz
 
 // How many blocks the sides say that the grid has; none for more than a line has room for.
 fn blocks(numbers: &[i64; 8200]) -> usize
-    ensures { λ r. ⌜ r ≤ 4096 ⌝ }
+    ensures { λ r. ⌜ (r ≡ blocksOf (now (numbers .entry))) × (r ≤ 4096) ⌝ }
 {
     let nx = cases::limited(numbers[0], 4096);
     let ny = cases::limited(numbers[1], 4096);
@@ -77,7 +78,7 @@ fn is_order(numbers: &[i64; 8200], order: &mut [i32]) -> bool
 }
 
 pub fn serpentine_order_agrees(numbers: &[i64; 8200], inputs: usize, count: usize) -> bool
-    ensures { λ r. ⌜ (r ≡ true → (inputs ≡ 2) × (2 < count)) ⌝ }
+    ensures { λ r. ⌜ (r ≡ true → Sized 2 (2 * blocksOf (now (numbers .entry))) inputs count) ⌝ }
 {
     let mut order = [7i32; 8192];
     let long = 2 * blocks(numbers);
@@ -99,11 +100,11 @@ fn words_from(numbers: &[i64; 8200], from: usize) -> [i32; 200]
 }
 
 // An output that is not asked for is lent with no room.
-fn output_room(asked: bool, blocks: usize) -> usize
+fn output_room(asked: usize, blocks: usize) -> usize
     requires { ⌜ blocks ≤ 25 ⌝ }
-    ensures { λ r. ⌜ r ≤ 50 ⌝ }
+    ensures { λ r. ⌜ (r ≡ outputOf asked blocks) × (r ≤ 50) ⌝ }
 {
-    if asked {
+    if asked == 1 {
         return 2 * blocks;
     }
     0
@@ -122,7 +123,7 @@ fn is_finished(
     let nx = whole::wrap32(numbers[0]);
     let ny = whole::wrap32(numbers[1]);
     let diagonal = whole::wrap32(numbers[2]);
-    let asked = 0 < numbers[3];
+    let asked = numbers[3] == 1;
     let answer = finishing::finish(nx, ny, indices, bests, diagonal, asked, vectors, output);
     let behind = from + vectors.len();
     (answer == 0) & holds(numbers, from, vectors) & holds(numbers, behind, output)
@@ -147,15 +148,19 @@ fn entries_agree(numbers: &[i64; 8200], n: usize, blocks: usize, room: usize) ->
 
 // A case with more blocks or entries than there is room for differs.
 pub fn finish_agrees(numbers: &[i64; 8200], inputs: usize, count: usize) -> bool
-    ensures { λ r. ⌜ (r ≡ true → (5 ≤ inputs) × (inputs < count)) ⌝ }
+    ensures { λ r. ⌜ (r ≡ true → Sized (finishInputs (now (numbers .entry))) (finishAnswers (now (numbers .entry))) inputs count) ⌝ }
 {
     let n = cases::limited(numbers[4], 50);
     let grid = blocks(numbers);
-    if (grid == 0) | (25 < grid) {
+    if grid == 0 {
         return false;
     }
-    let room = output_room(0 < numbers[3], grid);
-    let told = numbers[4] == n as i64;
+    if 25 < grid {
+        return false;
+    }
+    let asked = cases::limited(numbers[3], 1);
+    let room = output_room(asked, grid);
+    let told = (numbers[3] == asked as i64) & (numbers[4] == n as i64);
     let same = entries_agree(numbers, n, grid, room);
     cases::sized(inputs, count, 5 + 5 * n, 3 * grid + room) & (told & same)
 }

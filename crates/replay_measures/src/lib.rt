@@ -7,6 +7,7 @@ ghost use mathlib.Core.Path.{_≡_};
 ghost use mathlib.Core.Bool.{true};
 ghost use Prim.Native.Nat.{_+_, _*_, _≤_};
 ghost use Rattle.cases.specs.Places.{Sized};
+ghost use Rattle.replay_measures.specs.Sizes.{samplesOf};
 
 pub fn root_agrees(numbers: &[i64; 8200], inputs: usize, count: usize) -> bool
     ensures { λ r. ⌜ (r ≡ true → Sized 1 1 inputs count) ⌝ }
@@ -43,17 +44,11 @@ fn block(numbers: &[i64; 8200], from: usize) -> [u8; 256]
     out
 }
 
-fn wide(byte: u8) -> u64
-    ensures { λ r. ⌜ r ≤ 255 ⌝ }
-{
-    byte as u64
-}
-
 // How many samples the sides say that a block has.
-fn samples(numbers: &[i64; 8200]) -> u64
-    ensures { λ r. ⌜ r ≤ 65025 ⌝ }
+fn samples(numbers: &[i64; 8200]) -> usize
+    ensures { λ r. ⌜ (r ≡ samplesOf (now (numbers .entry))) × (r ≤ 256) ⌝ }
 {
-    wide(cases::byte(numbers[1])) * wide(cases::byte(numbers[2]))
+    cases::limited(numbers[1], 16) * cases::limited(numbers[2], 16)
 }
 
 fn is_cost(numbers: &[i64; 8200], area: usize) -> bool
@@ -70,11 +65,8 @@ fn is_cost(numbers: &[i64; 8200], area: usize) -> bool
 }
 
 pub fn cost_agrees(numbers: &[i64; 8200], inputs: usize, count: usize) -> bool
-    ensures { λ r. ⌜ (r ≡ true → count ≡ inputs + 1) ⌝ }
+    ensures { λ r. ⌜ (r ≡ true → Sized (3 + 2 * samplesOf (now (numbers .entry))) 1 inputs count) ⌝ }
 {
-    let area = samples(numbers) as usize;
-    if 256 < area {
-        return false;
-    }
+    let area = samples(numbers);
     cases::sized(inputs, count, 3 + 2 * area, 1) & is_cost(numbers, area)
 }

@@ -5,9 +5,10 @@
 use plane::Place;
 ghost use mathlib.Core.Path.{_≡_};
 ghost use mathlib.Core.Bool.{true};
-ghost use Prim.Native.Nat.{_≤_, _<_};
+ghost use Prim.Native.Nat.{_*_, _≤_};
 ghost use Rattle.cases.specs.Places.{Sized};
 ghost use Rattle.plane.specs.Places.{Placed};
+ghost use Rattle.replay_plane.specs.Sizes.{blockInputs, blockAnswers};
 
 // Whether the plane is one that an offset can be asked of.
 fn served(place: Place) -> bool
@@ -82,7 +83,7 @@ fn same(block: &[u8; 256], numbers: &[i64; 8200], from: usize, n: usize) -> bool
 
 fn area(w: usize, h: usize) -> usize
     requires { ⌜ (w ≤ 16) × (h ≤ 16) ⌝ }
-    ensures { λ r. ⌜ r ≤ 256 ⌝ }
+    ensures { λ r. ⌜ (r ≡ w * h) × (r ≤ 256) ⌝ }
 {
     w * h
 }
@@ -112,7 +113,7 @@ fn is_block(numbers: &[i64; 8200], place: Place, n: usize, w: usize, h: usize) -
 
 // A block with no sample has no answer to compare, and differs.
 pub fn block_agrees(numbers: &[i64; 8200], inputs: usize, count: usize) -> bool
-    ensures { λ r. ⌜ (r ≡ true → inputs < count) ⌝ }
+    ensures { λ r. ⌜ (r ≡ true → Sized (blockInputs (now (numbers .entry))) (blockAnswers (now (numbers .entry))) inputs count) ⌝ }
 {
     let place = place_of(numbers);
     if !served(place) {

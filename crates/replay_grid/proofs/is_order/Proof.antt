@@ -14,6 +14,10 @@ is-order-spec =
     tie.close
     (tie.spec
     (λ c. search needs)
+    (λ c κs. search needs)
+    (λ c. search needs)
+    (λ c κs. search needs)
+    (λ c. search needs)
     (λ c. search needs)
     slice-aggregate-serpentine-order
     (λ c κs. search needs)
