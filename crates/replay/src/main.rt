@@ -4,8 +4,8 @@ use cases::Tally;
 ghost use Prim.Native.Nat.{_≤_};
 ghost use lib.ListN.{length};
 
-// What was asked of the Rust, by the oracle's names. A word that is none of them is a kind that no line
-// of agrees with.
+// What was asked of the Rust, by the oracle's names. A line with another word is of no known kind, and
+// differs.
 enum Kind {
     Pair,
     Unpair,
