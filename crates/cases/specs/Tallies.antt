@@ -1,7 +1,6 @@
--- A tally after one line more. Counts wrap at 64 bits, which no file of vectors reaches.
+-- A tally after one line more, which is a case or none. Counts wrap at 64 bits, which no file of vectors reaches.
 use mathlib.Core.Bool.{Bool, true, false}
 use Prim.Native.Nat.{ℕ, zero, suc, _+_, _%_, _^_}
-use lib.Dec.{eqb}
 use Rattle.cases.specs.declared.Tally.{Tally}
 
 abbrev one-more : ℕ → ℕ
@@ -11,9 +10,6 @@ abbrev pub talliedCase : Tally → Bool → Tally
 talliedCase t true = record { lines = one-more (t .lines); cases = one-more (t .cases); differ = t .differ }
 talliedCase t false = record { lines = one-more (t .lines); cases = one-more (t .cases); differ = one-more (t .differ) }
 
-abbrev byInputs : Bool → Tally → Bool → Tally
-byInputs true t agrees = record { lines = one-more (t .lines); cases = t .cases; differ = t .differ }
-byInputs false t agrees = talliedCase t agrees
-
-abbrev pub talliedBy : Tally → ℕ → Bool → Tally
-talliedBy t inputs agrees = byInputs (eqb inputs 0) t agrees
+abbrev pub talliedBy : Tally → Bool → Bool → Tally
+talliedBy t false agrees = record { lines = one-more (t .lines); cases = t .cases; differ = t .differ }
+talliedBy t true agrees = talliedCase t agrees

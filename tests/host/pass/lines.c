@@ -1,7 +1,8 @@
 #include "lines.h"
 #include "../marks.h"
 
-enum { MORE = 5, BEHIND = 3 };
+/* No plane of the oracle's is as long: where a number is missing, another stands in the length's place. */
+enum { MORE = 5, BEHIND = 3, MOST_BYTES = 1 << 24 };
 
 int64_t take(struct numbers *from) {
     if (from->left == 0) {
@@ -66,6 +67,7 @@ struct hirupango_place take_place(struct numbers *from, int32_t pel, size_t *len
 
 struct bytes take_bytes(struct numbers *from, size_t length) {
     uint32_t seed = (uint32_t)take(from), levels = (uint32_t)take(from);
+    if (length > MOST_BYTES) from->short_of = true;
     struct bytes made = {NULL, from->short_of ? 0 : length};
     made.at = malloc(made.length + 1);
     for (size_t i = 0; i < made.length; i++) {

@@ -46,7 +46,8 @@ bool holds(struct lent buffer, size_t count, struct numbers *answers);
 struct hirupango_sides take_sides(struct numbers *from);
 struct hirupango_place take_place(struct numbers *from, int32_t pel, size_t *length);
 
-/* The bytes of a plane, by the oracle's rule (tests/oracle/README.md). The caller frees them. */
+/* The bytes of a plane, by the oracle's rule (tests/oracle/README.md); none, and short_of says so, where they would be more than the oracle makes.
+ * The caller frees them. */
 struct bytes {
     uint8_t *at;
     size_t length;

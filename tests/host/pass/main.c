@@ -12,17 +12,18 @@ static const struct {
 
 enum { KINDS = sizeof kinds / sizeof *kinds };
 
-/* Standard input, with a 0 behind it. */
-static char *all_input(void) {
-    size_t room = 1 << 16, length = 0;
+/* Standard input, with a newline behind it: so every line has an end, and a byte of 0 is a byte like any other. */
+static char *all_input(size_t *length) {
+    size_t room = 1 << 16;
     char *text = malloc(room);
+    *length = 0;
     for (;;) {
-        long more = read(0, text + length, room - length - 1);
+        long more = read(0, text + *length, room - *length - 1);
         if (more <= 0) break;
-        length += (size_t)more;
-        if (length + 1 == room) text = realloc(text, room *= 2);
+        *length += (size_t)more;
+        if (*length + 1 == room) text = realloc(text, room *= 2);
     }
-    text[length] = 0;
+    text[*length] = '\n';
     return text;
 }
 
@@ -30,13 +31,14 @@ static bool is_digit(char c) {
     return '0' <= c && c <= '9';
 }
 
-/* One whole number, or none where something else stands there. Its digits are never more than the oracle writes. */
+/* One whole number that a blank, an `=` or the line's end stands behind, or none where something else stands there. The oracle never writes
+ * more than 18 digits: more could come to another number. */
 static bool read_number(const char **at, int64_t *number) {
     bool negative = **at == '-';
-    const char *digits = *at + negative;
-    if (!is_digit(*digits)) return false;
+    const char *first = *at + negative, *digits = first;
     int64_t value = 0;
-    for (; is_digit(*digits); digits++) value = value * 10 + (*digits - '0');
+    for (; is_digit(*digits) && digits - first < 18; digits++) value = value * 10 + (*digits - '0');
+    if (digits == first || (*digits != ' ' && *digits != '=' && *digits != '\n')) return false;
     *number = negative ? -value : value;
     *at = digits;
     return true;
@@ -46,7 +48,7 @@ static bool read_number(const char **at, int64_t *number) {
 static bool read_line(const char **at, int64_t *numbers, size_t *count, size_t *split) {
     bool parted = false, good = true;
     *count = 0;
-    for (; **at && **at != '\n';) {
+    while (**at != '\n') {
         if (**at == ' ') {
             (*at)++;
         } else if (**at == '=' && !parted) {
@@ -63,9 +65,9 @@ static bool read_line(const char **at, int64_t *numbers, size_t *count, size_t *
     return good && parted;
 }
 
-static size_t longest_line(const char *text) {
+static size_t longest_line(const char *text, const char *end) {
     size_t most = 0, here = 0;
-    for (; *text; text++) {
+    for (; text != end; text++) {
         here = *text == '\n' ? 0 : here + 1;
         if (here > most) most = here;
     }
@@ -79,12 +81,13 @@ int main(int count, char **words) {
         printf("usage: pass KIND < LINES\n");
         return 2;
     }
-    const char *at = all_input();
-    int64_t *numbers = malloc((longest_line(at) + 1) * sizeof *numbers);
+    size_t bytes = 0;
+    const char *at = all_input(&bytes), *end = at + bytes;
+    int64_t *numbers = malloc((longest_line(at, end) + 1) * sizeof *numbers);
     long cases = 0, differ = 0;
-    for (size_t line = 1; *at; line++) {
+    for (size_t line = 1; at < end; line++, at++) {
         if (*at == '#' || *at == '\n') {
-            while (*at && *at != '\n') at++;
+            while (*at != '\n') at++;
         } else {
             size_t length = 0, split = 0;
             bool agrees = read_line(&at, numbers, &length, &split);
@@ -96,7 +99,6 @@ int main(int count, char **words) {
                 printf("differs: line %ld\n", (long)line);
             }
         }
-        if (*at) at++;
     }
     printf("%ld cases, %ld differ\n", cases, differ);
     return differ != 0;

@@ -9,9 +9,9 @@ use Rattle.cases.proofs.fed.Tie as tie
 
 with-digit-requires : tie.Need-with-digit-requires
 with-digit-requires c κs =
-    let byte = c .before .before .args .byte in
-    let least = leb-true 48 byte (left-of (leb 48 byte) (leb byte 57) (c .if2 .taken)) in
-    let greatest = leb-true byte 57 (right-of (leb 48 byte) (leb byte 57) (c .if2 .taken)) in
+    let byte = c .before .args .byte in
+    let least = leb-true 48 byte (left-of (leb 48 byte) (leb byte 57) (c .if1 .taken)) in
+    let greatest = leb-true byte 57 (right-of (leb 48 byte) (leb byte 57) (c .if1 .taken)) in
     omega arith
 
 pub fed-spec : {M : Type 1} → statement M
@@ -19,9 +19,7 @@ fed-spec =
     tie.close
     (tie.spec
     (λ c. search needs)
-    (λ c. search needs)
     with-digit-requires
-    (λ c. search needs)
     (λ c. search needs)
     (λ c. search needs)
     (λ c κs. search needs)

@@ -1,4 +1,4 @@
--- The counter stays below n, and the place below 128. Assumes nothing.
+-- The counter stays below n, and the place below 8200. Assumes nothing.
 use borrow.Author.Needs.{needs}
 use Prim.Native.Nat.{_-_, _≤_}
 use Rattle.replay_choosing.proofs.are_costs.Statement.{statement}

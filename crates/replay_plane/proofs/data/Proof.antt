@@ -1,4 +1,4 @@
--- The counter stays below 512, and the place below 800. Assumes nothing.
+-- The counter stays below 512, and the place below 8200. Assumes nothing.
 use borrow.Author.Needs.{needs}
 use mathlib.Core.Path.{_≡_}
 use Prim.Native.Nat.{_-_, _≤_}
