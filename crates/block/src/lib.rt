@@ -363,15 +363,9 @@ fn bad_record(
     let v = source.v;
     let across = shape.across;
     let down = shape.down;
-    let negative = shape.negative;
     let pel = across.pel;
     let x = spot.x;
     let y = spot.y;
-    let cx = spot.cx;
-    let cy = spot.cy;
-    let px = block.px;
-    let py = block.py;
-    let sad = block.sad;
     Record {
         full: full,
         overlay: overlay,
@@ -379,16 +373,16 @@ fn bad_record(
         v: v,
         average: average,
         pos: scaled(pel, x, y),
-        cpos: scaled(pel, cx, cy),
+        cpos: scaled(pel, spot.cx, spot.cy),
         predictor: Pair {
-            first: px,
-            second: py,
+            first: block.px,
+            second: block.py,
         },
         window_x: axis::window(across, x),
         window_y: axis::window(down, y),
-        sad: sad,
+        sad: block.sad,
         lambda: lambda,
-        flags: flags_of(true, negative),
+        flags: flags_of(true, shape.negative),
     }
 }
 

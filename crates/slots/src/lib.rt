@@ -113,9 +113,10 @@ fn luma_written(source: Source, negative: bool, offset: i32) -> Source
             v: v,
         };
     }
+    let half = Offset::Absent;
     Source {
         full: Offset::At(offset),
-        half: Offset::Absent,
+        half: half,
         u: u,
         v: v,
     }
