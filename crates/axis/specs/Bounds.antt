@@ -1,6 +1,6 @@
 -- The ranges that the limits of 01 leave to the numbers of an axis, which its functions ask of their callers; and the
 -- ranges of what is worked out from them. Assumes nothing.
-use lib.IntN.{ℤ, pos, _+ℤ_, _-ℤ_, _*ℤ_}
+use lib.IntN.{ℤ, pos, _+ℤ_, _-ℤ_}
 use lib.Signed.{ltZ, leZ}
 use Rattle.whole.specs.Interval.{Within, within-literal, within-add, within-sub, within-times, within-more, within-either}
 use Rattle.axis.specs.declared.Axis.{Axis}

@@ -1,7 +1,7 @@
 -- 01, "Numbers to hold on to": "64x64 frame, pel 2, 8x8 at x 8, radius 3: px -14 gives -16..-11; -15 moves to 9, -15..-12; 93 gives 90..95; 94 moves
 -- to 7, 91..94; -200 is empty." Each by computation.
 use mathlib.Core.Path.{_≡_, refl}
-use mathlib.Core.Bool.{true, false}
+use mathlib.Core.Bool.{true}
 use lib.IntN.{ℤ, pos, negsuc}
 use Rattle.records.specs.declared.Pair.{Pair}
 use Rattle.axis.specs.declared.Axis.{Axis}

@@ -8,7 +8,6 @@ use Rattle.limits.specs.Limits.{shiftedBy}
 use Rattle.plane.specs.declared.Place.{Place}
 use Rattle.plane.specs.Places.{pel1Of, Placed}
 use Rattle.axis.specs.Bounds.{Bounded}
-use Rattle.planes.specs.declared.Sides.{Sides}
 use Rattle.planes.specs.declared.Planes.{Planes}
 use Rattle.planes.specs.Lying.{Lies}
 use Rattle.block.specs.declared.Settings.{Settings}

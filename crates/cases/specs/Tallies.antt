@@ -1,6 +1,6 @@
 -- A tally after one line more, which is a case or none. Counts wrap at 64 bits, which no file of vectors reaches.
 use mathlib.Core.Bool.{Bool, true, false}
-use Prim.Native.Nat.{ℕ, zero, suc, _+_, _%_, _^_}
+use Prim.Native.Nat.{ℕ, _+_, _%_, _^_}
 use Rattle.cases.specs.declared.Tally.{Tally}
 
 abbrev one-more : ℕ → ℕ

@@ -11,12 +11,12 @@ use lib.ListN.{length}
 use lib.Signed.{ltZ, leZ, _≤ℤ_}
 use Prim.Native.Nat.{_%_}
 use Rattle.limits.specs.Sizes.{wordsPerRecord, numbersPerBest}
-use Rattle.limits.specs.Ranges.{radius-within, shift-within, same-is, lies, shifted-least}
+use Rattle.limits.specs.Ranges.{radius-within, shift-within, same-is, lies}
 use Rattle.whole.specs.Numbers.{liesIn, fitsI16}
 use Rattle.whole.specs.Signed.{P, N, signed, abs-is, add-is, diff-is, times-is}
-use Rattle.whole.specs.Truth.{left-of, right-of, lies-low, lies-high, three-of, four-of, five-of, six-of}
+use Rattle.whole.specs.Truth.{left-of, right-of, three-of, four-of, five-of, six-of}
 use Rattle.whole.specs.Interval.{Within, i16-within}
-use Rattle.limits.specs.Limits.{same, isBlock, isFrameSide, isPel, areShifts, shiftedBy, radiusOf}
+use Rattle.limits.specs.Limits.{same, isBlock, isFrameSide, isPel, areShifts, radiusOf}
 use Rattle.limits.specs.Refusals.{first}
 use Rattle.limits.specs.Refused.{first-passed, each-fails, neither-first, neither-second, let-through}
 use Rattle.records.specs.declared.Pair.{Pair}
@@ -25,10 +25,8 @@ use Rattle.records.specs.Packing.{pairFits, pairsFit}
 use Rattle.window.specs.Windows.{isBad, sideOf, mostOf, windowWide, isWide}
 use Rattle.plane.specs.declared.Place.{Place}
 use Rattle.plane.specs.Places.{limitsHold, keepsLength, Placed}
-use Rattle.plane.specs.Offsets.{accepted-placed}
 use Rattle.choosing.specs.Choosing.{countOf}
 use Rattle.choosing.specs.Bounds.{Ranged, Narrow}
-use Rattle.planes.specs.declared.Sides.{Sides}
 use Rattle.best.specs.declared.Task.{Task}
 use Rattle.best.specs.Best.{choiceOf}
 use Rattle.best.specs.Fair.{Fair, Comparable}

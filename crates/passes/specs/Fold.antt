@@ -1,6 +1,6 @@
 -- 01, "Planning, block by block in the given order": a whole plan is a fold over the order, and what it carries from block to block are the two slots.
 -- The order is flat (x, y), the vectors flat (x, y, SAD). Definitions alone.
-use mathlib.Core.Bool.{Bool, true, false, _&&_}
+use mathlib.Core.Bool.{Bool, true, _&&_}
 use mathlib.Core.List.{List, [], _∷_, _++_}
 use Prim.Native.Nat.{ℕ, zero, suc, _+_, _*_}
 use lib.IntN.{ℤ, pos, natAbs}

@@ -106,7 +106,7 @@ pub fn all_fit(
     true
 }
 
-fn listed(words: Words) -> [i32; 12]
+fn listed(words: Words) -> [i32; limits::WORDS_PER_RECORD]
     ensures { λ r. ⌜ r ≡ wordList words ⌝ }
 {
     let full = words.full;
@@ -137,7 +137,7 @@ fn listed(words: Words) -> [i32; 12]
     ]
 }
 
-fn put(records: &mut [i32], at: usize, words: [i32; 12])
+fn put(records: &mut [i32], at: usize, words: [i32; limits::WORDS_PER_RECORD])
     requires { ⌜ at + wordsPerRecord ≤ length (now records) ⌝ }
     ensures { λ _. ⌜ now (records .exit) ≡ paste (now (records .entry)) at words wordsPerRecord ⌝ }
 {

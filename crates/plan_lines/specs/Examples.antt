@@ -1,6 +1,5 @@
 -- 01, "Plan file": what is printed of its listing, by computation.
 use mathlib.Core.Path.{_≡_, refl}
-use lib.IntN.{pos}
 use Rattle.little_endian.specs.Bytes.{bytesOf, wordAt, wordsUpto}
 use Rattle.records.specs.Unpacking.{recordOf}
 use Rattle.report_text.specs.Text.{codes, digitsBy, digits, decimal}

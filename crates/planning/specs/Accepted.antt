@@ -1,33 +1,29 @@
 -- What passing the tests says: the refusals leave all that the two passes ask. Assumes nothing.
-use mathlib.Core.Path.{_≡_, refl, sym, ap, subst, _∙_}
-use mathlib.Core.Bool.{Bool, true, false, _&&_, _||_, cond}
+use mathlib.Core.Path.{_≡_, refl, sym, ap, _∙_}
+use mathlib.Core.Bool.{Bool, true, _&&_, _||_, cond}
 use mathlib.Core.List.{List}
 use mathlib.Core.Logic.{⊎-elim}
 use Prim.Native.Nat.{ℕ, zero, suc, _+_, _*_, _≤_, _<_}
 use native.Mathlib.Nat.{mul-le-mul, mul-comm}
 use native.Mathlib.Omega.{arith}
 use borrow.Author.Tests.{leb-true, eqb-true}
-use lib.Dec.{eqb, leb, lit<}
+use lib.Dec.{eqb, leb}
 use lib.IntN.{ℤ, pos, negsuc, natAbs, _+ℤ_, _-ℤ_, _*ℤ_}
 use lib.ListN.{length, getD}
-use lib.Signed.{ltZ, leZ, shrZ, _≤ℤ_, _<ℤ_}
+use lib.Signed.{ltZ, leZ, _≤ℤ_, _<ℤ_}
 use Rattle.limits.specs.Sizes.{wordsPerRecord}
-use Rattle.limits.specs.Ranges.{pel-within, same-is, lies, shifted-least}
+use Rattle.limits.specs.Ranges.{pel-within, lies}
 use Rattle.whole.specs.Numbers.{liesIn, fitsI16}
 use Rattle.whole.specs.Signed.{signed, abs-is}
-use Rattle.whole.specs.Truth.{left-of, right-of, either-of, lies-low, lies-high, three-of, four-of, five-of, six-of}
-use Rattle.whole.specs.Floor.{floor-low, floor-high}
+use Rattle.whole.specs.Truth.{left-of, right-of, either-of, four-of, five-of, six-of}
 use Rattle.whole.specs.Interval.{Within}
-use Rattle.limits.specs.Limits.{same, isBlock, isGridSide, isStep, isFrameSide, isPel, areShifts, shiftedBy, isLength, greatestLength}
+use Rattle.limits.specs.Limits.{same, isBlock, isGridSide, isStep, isFrameSide, isPel, areShifts}
 use Rattle.limits.specs.Refusals.{first}
 use Rattle.limits.specs.Refused.{each-passes, let-through}
 use Rattle.score.specs.declared.Answer.{Answer}
 use Rattle.score.specs.declared.Answer.the-variants.{Is}
 use Rattle.score.specs.declared.Answer.the-variants as diagonal
 use Rattle.score.specs.Diagonal.{frameFits, diagonalOf, diagonalAnswer, answerNumber}
-use Rattle.plane.specs.declared.Place.{Place}
-use Rattle.plane.specs.Places.{limitsHold, lastEnd, keepsLength}
-use Rattle.plane.specs.Offsets.{accepted-placed}
 use Rattle.planes.specs.declared.Sides.{Sides}
 use Rattle.block.specs.declared.Settings.{Settings}
 use Rattle.block.specs.Asked.{Along}

@@ -8,12 +8,9 @@ use lib.ListN.{length, getD}
 use lib.Signed.{ltZ, leZ}
 use Rattle.whole.specs.Numbers.{liesIn, fitsI16}
 use Rattle.limits.specs.Sizes.{wordsPerRecord}
-use Rattle.limits.specs.Limits.{same, isBlock, blocksOf, isGridSide, isStep, isFrameSide, isPel, areShifts, shiftedBy}
+use Rattle.limits.specs.Limits.{isBlock, blocksOf, isGridSide, isStep, isFrameSide, isPel, areShifts}
 use Rattle.limits.specs.Refusals.{first, anyUpto}
-use Rattle.plane.specs.declared.Place.{Place}
-use Rattle.plane.specs.Places.{limitsHold, keepsLength}
 use Rattle.planes.specs.declared.Sides.{Sides}
-use Rattle.planes.specs.declared.Planes.{Planes}
 use Rattle.block.specs.declared.Settings.{Settings}
 use Rattle.planes.specs.Planes.{planesHold, holds3}
 use Rattle.passes.specs.Fold.{allFit}

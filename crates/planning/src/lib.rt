@@ -1,5 +1,6 @@
 // Planning: the refusals in the table's order, and then the two passes over the order.
 use block::Settings;
+use plane::Place;
 use planes::Sides;
 use score::Answer;
 ghost use mathlib.Core.Path.{_≡_};
@@ -68,7 +69,7 @@ fn sides_hold(s: Settings) -> bool
     let step = s.step;
     let sides = s.block;
     let planes = s.planes;
-    let luma = planes.luma;
+    let luma: Place = planes.luma;
     let nx = grid.x;
     let ny = grid.y;
     let step_x = step.x;
@@ -200,7 +201,7 @@ fn made_of(s: Settings) -> Made
     let level = s.level;
     let pel = level.pel;
     let planes = s.planes;
-    let luma = planes.luma;
+    let luma: Place = planes.luma;
     let width = luma.width;
     let height = luma.height;
     let search_param = search.search_param;

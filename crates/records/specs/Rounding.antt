@@ -3,7 +3,7 @@ use mathlib.Core.Path.{_≡_, refl, sym}
 use Prim.Native.Nat.{ℕ, zero, suc, _/_}
 use lib.Dec.{lit<}
 use lib.IntN.{ℤ, pos, negsuc, _+ℤ_, _*ℤ_, negℤ, negℤ-negℤ}
-use lib.Signed.{_≤ℤ_, _<ℤ_, shrZ}
+use lib.Signed.{_≤ℤ_, _<ℤ_}
 use Rattle.whole.specs.Signed.{signed, add-is, times-is}
 use Rattle.whole.specs.Floor.{floor-low, floor-high}
 use Rattle.records.specs.Lambda.{quarterOf, thirdOf}

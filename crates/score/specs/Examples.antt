@@ -1,6 +1,6 @@
 -- 01, "Numbers to hold on to": its lines about the diagonal, the score and the output word, each by computation.
 use mathlib.Core.Path.{_≡_, refl}
-use lib.IntN.{ℤ, pos, negsuc}
+use lib.IntN.{pos, negsuc}
 use Rattle.whole.specs.Numbers.{rootOf}
 use Rattle.score.specs.declared.Answer.the-variants.{Is}
 use Rattle.score.specs.Diagonal.{diagonalOf, diagonalAnswer, answerNumber}

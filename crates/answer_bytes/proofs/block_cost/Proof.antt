@@ -4,23 +4,23 @@ use borrow.Author.Needs.{needs}
 use borrow.Author.Tests.{not-true, not-false, leb-true}
 use mathlib.Core.Path.{_≡_, sym, ap, _∙_}
 use mathlib.Core.Bool.{true, _&&_}
-use mathlib.Core.List.{List, _++_}
-use Prim.Native.Nat.{ℕ, _+_, _*_, _≤_, _<_}
+use mathlib.Core.List.{_++_}
+use Prim.Native.Nat.{_+_, _*_, _≤_, _<_}
 use native.Mathlib.Omega.{arith}
 use lib.IntN.{ℤ, pos, natAbs}
-use lib.ListN.{drop, getD}
+use lib.ListN.{drop}
 use lib.Signed.{ltZ}
 use mir.Facts.{toZ-ofZ, toZ-pos}
 use mir.Syntax.{w32, w64}
-use mir.Val.{SFits, toZ, ofZ}
-use Rattle.whole.specs.Signed.{signed, abs-is}
+use mir.Val.{toZ}
+use Rattle.whole.specs.Signed.{abs-is}
 use Rattle.whole.specs.Truth.{left-of, right-of, both-alike}
 use Rattle.whole.specs.Interval.{Within, is-arg, ask-unsigned}
 use Rattle.distance.specs.Distance.{blockOf}
 use Rattle.distance.specs.Laws.{Bytes, cost-most}
 use Rattle.little_endian.specs.Bytes.{bytesOf}
 use Rattle.answer_bytes.specs.BlockCost.{numbersFit, isHeld, blockCost}
-use Rattle.answer_bytes.specs.BlockCostLaws.{Side, Accepted, accepted, Outcome, outcome-2, outcome-3, outcome-5, outcome-0}
+use Rattle.answer_bytes.specs.BlockCostLaws.{Accepted, accepted, outcome-2, outcome-3, outcome-5, outcome-0}
 use Rattle.answer_bytes.proofs.block_cost.Statement.{statement}
 use Rattle.answer_bytes.proofs.block_cost.Tie as tie
 

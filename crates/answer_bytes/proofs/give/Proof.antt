@@ -1,14 +1,14 @@
 -- By the answer, and by the room that is lent. Assumes nothing.
 use borrow.Author.Needs.{needs}
-use mathlib.Core.Path.{_≡_, sym, ap, _∙_}
-use mathlib.Core.List.{List, _++_}
+use mathlib.Core.Path.{ap, _∙_}
+use mathlib.Core.List.{_++_}
 use lib.IntN.{ℤ}
 use lib.ListN.{drop}
 use mir.Facts.{toZ-ofZ}
 use mir.Syntax.{w32}
 use mir.Val.{SFits}
 use Rattle.little_endian.specs.Bytes.{bytesOf}
-use Rattle.answer_bytes.specs.WordLaws.{Given, given-refused, given-5, given-0}
+use Rattle.answer_bytes.specs.WordLaws.{given-refused, given-5, given-0}
 use Rattle.answer_bytes.proofs.give.Statement.{statement}
 use Rattle.answer_bytes.proofs.give.Tie as tie
 

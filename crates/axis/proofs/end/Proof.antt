@@ -1,5 +1,5 @@
 -- Bounded numbers have a bounded product. Assumes nothing.
-use lib.IntN.{pos, _-ℤ_}
+use lib.IntN.{_-ℤ_}
 use mir.Syntax.{w32}
 use mir.Val.{toZ, ofZ}
 use Rattle.whole.specs.Interval.{Is, is-within, is-wider, ask-sub, is-sub, ask-times, is-times}

@@ -1,14 +1,12 @@
 -- The predictor with its margin, against the two limits. Assumes nothing.
 use borrow.Author.Needs.{needs}
-use mathlib.Core.Path.{_∙_}
-use lib.IntN.{ℤ}
 use mir.Facts.{toZ-ofZ}
 use mir.Syntax.{w32}
 use mir.Val.{SFits, toZ, ofZ}
 use Rattle.whole.specs.Signed.{got}
-use Rattle.whole.specs.Interval.{Is, is-call, is-within, read-within, fits}
+use Rattle.whole.specs.Interval.{Is, is-call, read-within, fits}
 use Rattle.axis.specs.Axis.{marginOf, leastOf, endOf, excessOf}
-use Rattle.axis.specs.Bounds.{Bounded, margin-within, least-within, end-within}
+use Rattle.axis.specs.Bounds.{margin-within, least-within, end-within}
 use Rattle.axis.proofs.excess.Statement.{statement}
 use Rattle.axis.proofs.excess.Tie as tie
 

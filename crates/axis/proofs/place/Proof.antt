@@ -1,14 +1,13 @@
 -- The place is clamped by the lesser and the greater of two. Assumes nothing.
 use borrow.Author.Needs.{needs}
 use mathlib.Core.Path.{refl}
-use lib.IntN.{ℤ, pos, _-ℤ_}
 use mir.Facts.{toZ-ofZ}
 use mir.Syntax.{w32}
 use mir.Val.{toZ, ofZ}
 use Rattle.whole.specs.Signed.{got, lesser-read, greater-read}
-use Rattle.whole.specs.Interval.{Within, Is, is-call, is-within, ask-sub, is-sub, fits}
+use Rattle.whole.specs.Interval.{Is, is-call, is-within, ask-sub, is-sub, fits}
 use Rattle.axis.specs.Axis.{excessOf, placeOf}
-use Rattle.axis.specs.Bounds.{Bounded, excess-within}
+use Rattle.axis.specs.Bounds.{excess-within}
 use Rattle.axis.proofs.place.Statement.{statement}
 use Rattle.axis.proofs.place.Tie as tie
 

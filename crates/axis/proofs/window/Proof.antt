@@ -10,7 +10,7 @@ use Rattle.whole.specs.Signed.{got, lesser-read, greater-read}
 use Rattle.whole.specs.Interval.{Within, within-literal, within-more, within-either, within-sub, Is, is-call, is-within, is-literal, ask-add, is-add, ask-sub, is-sub}
 use Rattle.records.specs.Alike.{alike-pairs}
 use Rattle.axis.specs.Axis.{leastOf, endOf, windowOf}
-use Rattle.axis.specs.Bounds.{Bounded, least-within, end-within}
+use Rattle.axis.specs.Bounds.{least-within, end-within}
 use Rattle.axis.proofs.window.Statement.{statement}
 use Rattle.axis.proofs.window.Tie as tie
 

@@ -1,6 +1,6 @@
 -- The stages of the definition, one call each. Assumes nothing.
 use borrow.Author.Needs.{needs}
-use mathlib.Core.Path.{_≡_, sym, ap, subst, _∙_}
+use mathlib.Core.Path.{_≡_, ap, _∙_}
 use mathlib.Core.Bool.{Bool}
 use lib.IntN.{ℤ}
 use mir.Facts.{toZ-ofZ}
@@ -10,7 +10,6 @@ use Rattle.whole.specs.Signed.{got}
 use Rattle.records.specs.declared.Offset.the-variants.{At}
 use Rattle.plane.specs.Places.{pel1Of}
 use Rattle.block.specs.Shapes.{movesOf, spotOf}
-use Rattle.block.specs.Asked.{SpotHeld}
 use Rattle.block.specs.Steps.{badRecord}
 use Rattle.block.specs.Bounds.{spot-within}
 use Rattle.block.specs.Stages.{bad-stages}

@@ -1,6 +1,6 @@
 -- The limit is a third of the setting for a negative block. Assumes nothing.
 use borrow.Author.Needs.{needs}
-use mathlib.Core.Path.{_≡_, ap}
+use mathlib.Core.Path.{_≡_}
 use lib.IntN.{ℤ}
 use lib.Signed.{ltZ}
 use mir.Facts.{toZ-ofZ}

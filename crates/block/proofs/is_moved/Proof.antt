@@ -1,6 +1,6 @@
 -- Neither excess is 0, or both are. Assumes nothing.
 use borrow.Author.Needs.{needs}
-use mathlib.Core.Path.{_≡_, ap, _∙_}
+use mathlib.Core.Path.{_≡_, ap}
 use mathlib.Core.Bool.{Bool, not}
 use lib.IntN.{ℤ, pos}
 use mir.Syntax.{w32}

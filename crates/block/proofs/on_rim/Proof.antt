@@ -1,6 +1,6 @@
 -- The count less one fits, and each side of the test is read as it was given. Assumes nothing.
 use mathlib.Core.Path.{_≡_}
-use mathlib.Core.Bool.{Bool, _||_}
+use mathlib.Core.Bool.{_||_}
 use lib.IntN.{ℤ, pos, _-ℤ_}
 use lib.Signed.{leZ}
 use mir.Facts.{toZ-ofZ}

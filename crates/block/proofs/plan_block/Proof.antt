@@ -1,7 +1,7 @@
 -- The block's shape and lambda, and then one of the three kinds. Assumes nothing.
 use borrow.Author.Needs.{needs}
 use mathlib.Core.Path.{_≡_, sym, subst, _∙_}
-use mathlib.Core.Bool.{Bool, false}
+use mathlib.Core.Bool.{Bool}
 use mir.Facts.{toZ-ofZ}
 use mir.Syntax.{w32}
 use mir.Val.{SFits, toZ, ofZ}
@@ -10,7 +10,7 @@ use Rattle.axis.specs.Bounds.{Bounded}
 use Rattle.block.specs.declared.Shape.{Shape}
 use Rattle.block.specs.declared.Settings.{Settings}
 use Rattle.block.specs.declared.Block.{Block}
-use Rattle.block.specs.Shapes.{shapeOf, lambdaOf, isBad, movesOf, spotOf}
+use Rattle.block.specs.Shapes.{shapeOf, lambdaOf, isBad, spotOf}
 use Rattle.block.specs.Asked.{Addressed, SpotHeld, Ready}
 use Rattle.block.specs.Reach.{shaped, across-bounded, down-bounded, spot-held, origin-addressed}
 use Rattle.block.specs.Stages.{bad-case, luma-case, quiet-case, stepped}

@@ -1,12 +1,11 @@
 -- Each axis's place, and the chroma place that goes with it. Assumes nothing.
-use borrow.Author.Needs.{needs}
 use mathlib.Core.Path.{_≡_}
 use lib.IntN.{ℤ}
 use mir.Facts.{toZ-ofZ}
 use mir.Syntax.{w32}
 use mir.Val.{SFits, toZ, ofZ}
 use Rattle.whole.specs.Signed.{got}
-use Rattle.whole.specs.Interval.{Is, is-within, is-call, is-wider, read-within, fits}
+use Rattle.whole.specs.Interval.{Is, is-within, is-call, is-wider, read-within}
 use Rattle.axis.specs.Axis.{placeOf}
 use Rattle.block.specs.Shapes.{chromaPlace, spotOf}
 use Rattle.block.specs.Alike.{alike-spots}

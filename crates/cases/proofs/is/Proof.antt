@@ -1,6 +1,5 @@
 -- Two numbers are equal where their bits in 64 are. Assumes nothing.
-use mathlib.Core.Path.{_≡_, sym, ap, _∙_}
-use lib.IntN.{ℤ}
+use mathlib.Core.Path.{sym, ap, _∙_}
 use borrow.Author.Tests.{eq-eqb, eqb-true}
 use mir.Facts.{toZ-ofZ}
 use mir.Syntax.{w32, w64}

@@ -1,5 +1,4 @@
 -- Both numbers are those asked for, where the test holds. Assumes nothing.
-use mathlib.Core.Bool.{_&&_}
 use native.Mathlib.Omega.{arith}
 use Prim.Native.Nat.{_-_}
 use borrow.Author.Tests.{eqb-true}

@@ -1,10 +1,9 @@
 -- Refused, and nothing lent is touched; or every record's best is written. Assumes nothing.
 use borrow.Author.Needs.{needs}
 use mathlib.Core.Path.{_≡_, sym, ap, subst, _∙_}
-use mathlib.Core.List.{List, _++_}
+use mathlib.Core.List.{_++_}
 use Prim.Native.Nat.{ℕ, _*_, _/_, _<_}
 use native.Mathlib.Omega.{arith}
-use lib.IntN.{ℤ}
 use lib.ListN.{length, drop}
 use Rattle.limits.specs.Sizes.{wordsPerRecord, numbersPerBest}
 use Rattle.limits.specs.Refusals.{kept}
@@ -13,7 +12,7 @@ use Rattle.best.specs.declared.Task.{Task}
 use Rattle.evaluation.specs.Refusals.{refusalOf}
 use Rattle.evaluation.specs.Evaluated.{taskOf, bestsUpto, evaluateAnswer, evaluateBests}
 use Rattle.evaluation.specs.Asked.{FairAll}
-use Rattle.evaluation.specs.Accepted.{Accepted, accepted}
+use Rattle.evaluation.specs.Accepted.{accepted}
 use Rattle.evaluation.proofs.evaluate.Statement.{statement}
 use Rattle.evaluation.proofs.evaluate.Tie as tie
 

@@ -1,5 +1,5 @@
 -- The horizontal shift alone is handed on. Assumes nothing.
-use mathlib.Core.Path.{_≡_, refl}
+use mathlib.Core.Path.{_≡_}
 use mathlib.Core.Bool.{Bool}
 use lib.IntN.{ℤ}
 use mir.Facts.{toZ-ofZ}

@@ -1,6 +1,6 @@
 -- The entry's own equations, the number by its answer's case. Assumes nothing.
 use borrow.Author.Needs.{needs}
-use mathlib.Core.Path.{_≡_, sym, ap, _∙_}
+use mathlib.Core.Path.{sym, ap, _∙_}
 use Rattle.planning.specs.Planned.{planNumber}
 use Rattle.hirupango.proofs.hirupango_plan.Statement.{statement}
 use Rattle.hirupango.proofs.hirupango_plan.Tie as tie

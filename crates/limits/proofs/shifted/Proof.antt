@@ -1,6 +1,5 @@
 -- Each branch is one of the definition. Assumes nothing.
 use mir.Facts.{toZ-ofZ}
-use mir.Syntax.{w32}
 use Rattle.whole.specs.Interval.{word, is-shr}
 use Rattle.limits.proofs.shifted.Statement.{statement}
 use Rattle.limits.proofs.shifted.Tie as tie

@@ -4,7 +4,7 @@ use native.Mathlib.Omega.{arith}
 use lib.Bits.{bitAnd}
 use lib.Dec.{lit<, lit≤}
 use lib.IntN.{pos, natAbs}
-use mir.Syntax.{w8, w32}
+use mir.Syntax.{w32}
 use mir.Val.{toZ, ofZ}
 use Rattle.whole.specs.Numbers.{modZ}
 use Rattle.whole.specs.Floor.{mod-below}

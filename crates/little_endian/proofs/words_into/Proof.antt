@@ -1,12 +1,12 @@
 -- After i turns the first i words stand in front of what was there. Assumes nothing.
 use mathlib.Core.Path.{_≡_, ap, _∙_}
 use mathlib.Core.List.{_++_}
-use Prim.Native.Nat.{ℕ, _-_, _*_, _≤_}
+use Prim.Native.Nat.{ℕ, _-_, _≤_}
 use native.Mathlib.Omega.{arith}
 use lib.ListN.{length, drop, set, length-append, length-drop}
 use mir.Syntax.{w32}
 use Rattle.whole.specs.Signed.{got}
-use Rattle.little_endian.specs.Bytes.{wordAt, wordsUpto}
+use Rattle.little_endian.specs.Bytes.{wordsUpto}
 use Rattle.little_endian.specs.WordsRead.{words-long, words-none, words-next, words-all}
 use Rattle.little_endian.proofs.words_into.Statement.{statement}
 use Rattle.little_endian.proofs.words_into.Tie as tie

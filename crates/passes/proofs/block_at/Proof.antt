@@ -1,14 +1,12 @@
 -- The block's place, and the vector at its index. Assumes nothing.
 use borrow.Author.Needs.{needs}
-use mathlib.Core.Path.{_≡_, ap, _∙_}
+use mathlib.Core.Path.{_≡_}
 use mathlib.Core.List.{List}
 use Prim.Native.Nat.{ℕ, _+_, _*_}
 use native.Mathlib.Omega.{arith}
 use lib.IntN.{ℤ, pos}
 use lib.ListN.{getD}
 use mir.Facts.{toZ-ofZ}
-use mir.Syntax.{w32}
-use mir.Val.{toZ, ofZ}
 use Rattle.block.specs.declared.Block.{Block}
 use Rattle.passes.specs.Fold.{indexAt, blockAt}
 use Rattle.passes.specs.FoldLaws.{index-small}

@@ -6,9 +6,8 @@ use Prim.Native.Nat.{ℕ, _+_, _*_}
 use native.Mathlib.Omega.{arith}
 use lib.IntN.{ℤ, pos, natAbs}
 use lib.ListN.{getD}
-use mir.Facts.{toZ-ofZ}
 use mir.Syntax.{w32, w64}
-use mir.Val.{SFits, toZ, ofZ}
+use mir.Val.{toZ, ofZ}
 use Rattle.whole.specs.Signed.{signed}
 use Rattle.whole.specs.Interval.{Within, Is, is-within, ask-unsigned}
 use Rattle.planes.specs.declared.Sides.{Sides}

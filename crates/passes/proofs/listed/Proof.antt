@@ -1,10 +1,10 @@
 -- Twelve words, each read as it was given. Assumes nothing.
 use mathlib.Core.Path.{_≡_}
-use mathlib.Core.List.{List, [], _∷_}
+use mathlib.Core.List.{List, _∷_}
 use lib.IntN.{ℤ}
 use mir.Facts.{toZ-ofZ}
 use mir.Syntax.{w32}
-use mir.Val.{SFits, toZ, ofZ}
+use mir.Val.{SFits}
 use Rattle.passes.proofs.listed.Statement.{statement}
 use Rattle.passes.proofs.listed.Tie as tie
 

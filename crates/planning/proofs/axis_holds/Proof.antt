@@ -5,7 +5,7 @@ use lib.IntN.{ℤ, pos, _+ℤ_, _-ℤ_, _*ℤ_}
 use lib.Signed.{leZ}
 use mir.Facts.{toZ-ofZ}
 use mir.Syntax.{w64}
-use mir.Val.{SFits, toZ, ofZ}
+use mir.Val.{toZ, ofZ}
 use Rattle.whole.specs.Truth.{four-alike}
 use Rattle.whole.specs.Interval.{Is, word, widened, is-literal, is-wider, ask-cast, ask-sub, is-sub, ask-times, is-times, ask-add, is-add}
 use Rattle.planning.specs.Refusals.{axisHolds}

@@ -2,7 +2,6 @@
 use borrow.Author.Needs.{needs}
 use mathlib.Core.Path.{_≡_, sym, ap, subst, _∙_}
 use mathlib.Core.Bool.{true}
-use native.Mathlib.Omega.{arith}
 use Rattle.records.specs.declared.Record.{Record}
 use Rattle.records.specs.Packing.{pairsFit}
 use Rattle.records.specs.Unpacking.{recordOf}

@@ -3,8 +3,6 @@ use borrow.Author.Needs.{needs}
 use mathlib.Core.Path.{sym, subst}
 use mir.Facts.{toZ-ofZ}
 use mir.Syntax.{w32}
-use mir.Val.{SFits}
-use Rattle.records.specs.declared.Words.{Words}
 use Rattle.records.specs.Alike.{alike-words}
 use Rattle.records.specs.RoundTrip.{Held}
 use Rattle.record_slice.specs.RecordSlice.{wordsFrom}

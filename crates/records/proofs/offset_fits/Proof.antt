@@ -1,8 +1,6 @@
 -- By the two cases of the offset. Assumes nothing.
 use borrow.Author.Needs.{needs}
-use mathlib.Core.Path.{_∙_, sym, ap}
-use lib.IntN.{ℤ, negsuc}
-use lib.Signed.{ltZ}
+use mathlib.Core.Path.{sym, ap}
 use mir.Facts.{toZ-ofZ}
 use mir.Syntax.{w32}
 use mir.Val.{SFits}

@@ -1,6 +1,4 @@
 -- A shift of what fits fits. Assumes nothing.
-use mathlib.Core.Path.{_∙_}
-use mir.Syntax.{w32}
 use Rattle.whole.specs.Interval.{word, is-shr}
 use Rattle.records.proofs.quarter.Statement.{statement}
 use Rattle.records.proofs.quarter.Tie as tie
