@@ -1,5 +1,5 @@
 -- What a file that 8 does not refuse has: its length and its count fit each other, and its radius is one of 0 to 3. Assumes nothing.
-use mathlib.Core.Path.{_≡_, refl}
+use mathlib.Core.Path.{_≡_, refl, ap, _∙_}
 use mathlib.Core.Bool.{Bool, true, false, _&&_, cond}
 use mathlib.Core.List.{List}
 use Prim.Native.Nat.{ℕ, _+_, _*_, _/_, _≤_}
@@ -7,7 +7,7 @@ use native.Mathlib.Omega.{arith}
 use borrow.Author.Tests.{leb-true}
 use lib.Dec.{T, leb}
 use lib.IntN.{ℤ, pos, natAbs, _+ℤ_, _*ℤ_}
-use lib.ListN.{length}
+use lib.ListN.{length, take}
 use lib.Signed.{nonNeg}
 use Rattle.whole.specs.Numbers.{liesIn}
 use Rattle.whole.specs.Signed.{signed, add-is, times-is, abs-is, nonneg-of}
@@ -80,6 +80,10 @@ served file e =
 -- ---- its words: as many as it has, and so every record that it counts
 pub words-long : (file : List ℕ) → length (wordsOf file) ≡ length file / 4
 words-long file = all-long file (length file / 4)
+
+-- and so long is the front of an array in which they stand
+pub front-long : (file : List ℕ) (words : List ℤ) → take (length file / 4) words ≡ wordsOf file → length (take (length file / 4) words) ≡ length file / 4
+front-long file words e = ap length e ∙ words-long file
 
 pub records-held : (file : List ℕ) → isPlanFile file ≡ true → wordsPerRecord * natAbs (trailerOf file .count) ≤ length (wordsOf file)
 records-held file e = omega (arith, words-long file, served file e .counted)

@@ -1,4 +1,4 @@
--- What planes that pass the tests of 2 and 3 have: their offsets can be worked out and lie in their data. Assumes nothing.
+-- What planes that pass the tests of 2 and 3 have: offsets in them can be worked out, and their rows end before byte 2^30. Assumes nothing.
 use mathlib.Core.Path.{_≡_, refl, sym, subst}
 use mathlib.Core.Bool.{true}
 use Prim.Native.Nat.{ℕ}
@@ -16,7 +16,7 @@ use Rattle.planes.specs.declared.Sides.{Sides}
 use Rattle.planes.specs.declared.Planes.{Planes}
 use Rattle.planes.specs.Planes.{chromaHolds, planesHold, holds3}
 
--- a plane of this width and height: its offsets can be worked out, and its rows lie in its data
+-- a plane of this width and height: offsets in it can be worked out, and its last row ends before byte 2^30
 pub record Lies (p : Place) (width height : ℤ) : Type 0 where
   pub placed : Placed p
   pub end : lastEnd p ≤ℤ pos 1073741823

@@ -1,10 +1,8 @@
 -- The trailer's numbers, and the records that are counted. Assumes nothing.
 use mathlib.Core.Path.{_≡_, sym, ap, _∙_}
 use mathlib.Core.List.{List}
-use Prim.Native.Nat.{_/_}
 use native.Mathlib.Omega.{arith}
 use lib.IntN.{ℤ, pos}
-use lib.ListN.{length, take}
 use mir.Facts.{toZ-ofZ, toZ-pos}
 use mir.Syntax.{w32}
 use mir.Val.{SFits}
@@ -13,7 +11,7 @@ use Rattle.window.specs.Windows.{isBad, slotsOf}
 use Rattle.plan_file.specs.declared.Trailer.{Trailer}
 use Rattle.plan_file.specs.PlanFile.{wordsOf, tally, headOf}
 use Rattle.plan_file.specs.Counting.{counted-most}
-use Rattle.plan_file.specs.Served.{served, words-long, records-held}
+use Rattle.plan_file.specs.Served.{served, words-long, front-long, records-held}
 use Rattle.plan_file.specs.Alike.{alike-heads}
 use Rattle.plan_file.proofs.head_of.Statement.{statement}
 use Rattle.plan_file.proofs.head_of.Tie as tie
@@ -21,15 +19,11 @@ use Rattle.plan_file.proofs.head_of.Tie as tie
 array-share-prefix-words : tie.Need-array-share-prefix-words
 array-share-prefix-words c = omega (arith, served (c .before .before .args .file .now) (c .before .before .pre) .most)
 
-front-long : (c : tie.After-words) →
-    length (take (length (c .before .before .before .args .file .now) / 4) (c .before .words-of .result)) ≡ length (c .before .before .before .args .file .now) / 4
-front-long c = ap length (c .before .words-of .ensures) ∙ words-long (c .before .before .before .args .file .now)
-
 searched-requires : tie.Need-searched-requires
 searched-requires c κs =
     let s = c .before .before .before .before in
     let file = s .args .file .now in
-    omega (arith, front-long (c .before), words-long file, records-held file (s .pre), c .count-of .ensures .0)
+    omega (arith, front-long file _ (c .before .before .words-of .ensures), words-long file, records-held file (s .pre), c .count-of .ensures .0)
 
 counted : (c : tie.After-searched) → c .searched .result ≡ tally isBad (wordsOf (c .before .before .before .before .before .args .file .now)) (c .before .count-of .result)
 counted c = c .searched .ensures ∙ ap (λ (w : List ℤ). tally isBad w (c .before .count-of .result)) (c .before .before .before .words-of .ensures)
@@ -76,7 +70,7 @@ head-of-spec =
     (tie.spec
     (λ c κs. served (c .before .args .file .now) (c .before .pre) .most)
     array-share-prefix-words
-    (λ c. sym (front-long c))
+    (λ c. sym (front-long (c .before .before .before .args .file .now) _ (c .before .words-of .ensures)))
     (λ c κs. c .before .before .before .pre)
     searched-requires
     cast-found

@@ -1,17 +1,16 @@
 -- All records of the file, by the trailer's radius. Assumes nothing.
-use mathlib.Core.Path.{_≡_, sym, ap, _∙_}
+use mathlib.Core.Path.{sym, ap, _∙_}
 use mathlib.Core.List.{List}
-use Prim.Native.Nat.{ℕ, _/_}
+use Prim.Native.Nat.{ℕ}
 use native.Mathlib.Omega.{arith}
 use lib.IntN.{ℤ, natAbs}
-use lib.ListN.{length, take}
 use mir.Facts.{toZ-ofZ}
 use mir.Syntax.{w32}
 use mir.Val.{SFits, toZ, ofZ}
 use Rattle.record_slice.specs.RecordSlice.{anyWide}
 use Rattle.plan_file.specs.declared.Trailer.{Trailer}
 use Rattle.plan_file.specs.PlanFile.{wordsOf, trailerOf}
-use Rattle.plan_file.specs.Served.{served, words-long, records-held}
+use Rattle.plan_file.specs.Served.{served, words-long, front-long, records-held}
 use Rattle.plan_file.proofs.is_too_wide.Statement.{statement}
 use Rattle.plan_file.proofs.is_too_wide.Tie as tie
 
@@ -25,16 +24,11 @@ array-share-prefix-words : tie.Need-array-share-prefix-words
 array-share-prefix-words c =
     omega (arith, served (c .before .before .before .before .before .args .file .now) (c .before .before .before .before .before .pre) .most)
 
-front-long : (c : tie.After-words) →
-    length (take (length (c .before .before .before .before .before .before .args .file .now) / 4) (c .before .words-of .result))
-    ≡ length (c .before .before .before .before .before .before .args .file .now) / 4
-front-long c = ap length (c .before .words-of .ensures) ∙ words-long (c .before .before .before .before .before .before .args .file .now)
-
 any-wide-requires : tie.Need-any-wide-requires
 any-wide-requires c κs =
     let s = c .before .before .before .before .before .before in
     let file = s .args .file .now in
-    omega (arith, front-long c, words-long file, records-held file (s .pre), c .before .before .count-of .ensures .0)
+    omega (arith, front-long file _ (c .before .words-of .ensures), words-long file, records-held file (s .pre), c .before .before .count-of .ensures .0)
 
 returns : tie.Need-returns
 returns c =
@@ -58,6 +52,6 @@ is-too-wide-spec =
     (λ c κs. c .before .before .before .pre)
     words-of-requires
     array-share-prefix-words
-    (λ c. sym (front-long c))
+    (λ c. sym (front-long (c .before .before .before .before .before .before .args .file .now) _ (c .before .words-of .ensures)))
     any-wide-requires
     returns)

@@ -1,12 +1,10 @@
 -- The record is read from the file's words. Assumes nothing.
-use mathlib.Core.Path.{_≡_, sym, ap, _∙_}
+use mathlib.Core.Path.{sym, ap, _∙_}
 use mathlib.Core.List.{List}
-use Prim.Native.Nat.{_/_}
 use native.Mathlib.Omega.{arith}
 use lib.IntN.{ℤ}
-use lib.ListN.{length, take}
 use Rattle.record_slice.specs.RecordSlice.{recordAt}
-use Rattle.plan_file.specs.Served.{served, words-long, records-held}
+use Rattle.plan_file.specs.Served.{served, words-long, front-long, records-held}
 use Rattle.plan_file.proofs.record_of.Statement.{statement}
 use Rattle.plan_file.proofs.record_of.Tie as tie
 
@@ -16,15 +14,11 @@ words-of-requires c κs = served (c .before .args .file .now) (c .before .pre .0
 array-share-prefix-words : tie.Need-array-share-prefix-words
 array-share-prefix-words c = omega (arith, served (c .before .before .args .file .now) (c .before .before .pre .0) .most)
 
-front-long : (c : tie.After-words) →
-    length (take (length (c .before .before .before .args .file .now) / 4) (c .before .words-of .result)) ≡ length (c .before .before .before .args .file .now) / 4
-front-long c = ap length (c .before .words-of .ensures) ∙ words-long (c .before .before .before .args .file .now)
-
 record-at-requires : tie.Need-record-at-requires
 record-at-requires c κs =
     let s = c .before .before .before in
     let file = s .args .file .now in
-    omega (arith, front-long c, words-long file, records-held file (s .pre .0), s .pre .1)
+    omega (arith, front-long file _ (c .before .words-of .ensures), words-long file, records-held file (s .pre .0), s .pre .1)
 
 returns : tie.Need-returns
 returns c =
@@ -32,4 +26,4 @@ returns c =
     c .record-at .ensures .0 ∙ ap (λ (w : List ℤ). recordAt w number) (c .before .before .words-of .ensures)
 
 pub record-of-spec : {M : Type 1} → statement M
-record-of-spec = tie.close (tie.spec words-of-requires array-share-prefix-words (λ c. sym (front-long c)) record-at-requires returns)
+record-of-spec = tie.close (tie.spec words-of-requires array-share-prefix-words (λ c. sym (front-long (c .before .before .before .args .file .now) _ (c .before .words-of .ensures))) record-at-requires returns)
