@@ -1,2 +1,3 @@
 pub mod RecordSlice
+pub mod Parts
 pub mod ReadBack

@@ -1,4 +1,6 @@
 // Records as they stand in a lent slice, 12 words each, and refusal 7 asked of all of them.
+use records::OffsetWords;
+use records::PairWords;
 use records::Record;
 use records::Words;
 ghost use mathlib.Core.Path.{_≡_};
@@ -7,40 +9,44 @@ ghost use Prim.Native.Nat.{_+_, _*_, _≤_};
 ghost use lib.ListN.{length};
 ghost use Rattle.limits.specs.Sizes.{wordsPerRecord};
 ghost use Rattle.records.specs.Packing.{pairsFit};
-ghost use Rattle.records.specs.RoundTrip.{Held};
 ghost use Rattle.record_slice.specs.RecordSlice.{wordsFrom, recordAt, anyWide};
+ghost use Rattle.record_slice.specs.Parts.{offsetWordsFrom, pairWordsFrom};
+
+fn offset_words_from(records: &[i32], at: usize) -> OffsetWords
+    requires { ⌜ at + wordsPerRecord ≤ length (now records) ⌝ }
+    ensures { λ r. ⌜ r ≡ offsetWordsFrom (now (records .entry)) at ⌝ }
+{
+    OffsetWords {
+        full: records[at],
+        overlay: records[at + 1],
+        u: records[at + 2],
+        v: records[at + 3],
+        average: records[at + 4],
+    }
+}
+
+fn pair_words_from(records: &[i32], at: usize) -> PairWords
+    requires { ⌜ at + wordsPerRecord ≤ length (now records) ⌝ }
+    ensures { λ r. ⌜ r ≡ pairWordsFrom (now (records .entry)) at ⌝ }
+{
+    PairWords {
+        pos: records[at + 5],
+        cpos: records[at + 6],
+        predictor: records[at + 7],
+        window_x: records[at + 8],
+        window_y: records[at + 9],
+    }
+}
 
 fn words_from(records: &[i32], at: usize) -> Words
     requires { ⌜ at + wordsPerRecord ≤ length (now records) ⌝ }
     ensures { λ r. ⌜ r ≡ wordsFrom (now (records .entry)) at ⌝ }
-    ensures { λ r. ⌜ Held r ⌝ }
 {
-    let full = records[at];
-    let overlay = records[at + 1];
-    let u = records[at + 2];
-    let v = records[at + 3];
-    let average = records[at + 4];
-    let pos = records[at + 5];
-    let cpos = records[at + 6];
-    let predictor = records[at + 7];
-    let window_x = records[at + 8];
-    let window_y = records[at + 9];
+    let offsets = offset_words_from(records, at);
+    let pairs = pair_words_from(records, at);
     let sad = records[at + 10];
     let last = records[at + 11];
-    Words {
-        full: full,
-        overlay: overlay,
-        u: u,
-        v: v,
-        average: average,
-        pos: pos,
-        cpos: cpos,
-        predictor: predictor,
-        window_x: window_x,
-        window_y: window_y,
-        sad: sad,
-        last: last,
-    }
+    records::joined_words(offsets, pairs, sad, last)
 }
 
 pub fn record_at(records: &[i32], i: usize) -> Record

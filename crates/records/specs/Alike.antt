@@ -10,6 +10,15 @@ use Rattle.records.specs.declared.Words.{Words}
 pub alike-pairs : {a b A B : ℤ} → a ≡ A → b ≡ B → _≡_ {A = Pair} (record { first = a; second = b }) (record { first = A; second = B })
 alike-pairs p q = cc
 
+-- whatever is made of five parts, or of four
+pub alike-five : {A B C D E F : Type 0} (make : A → B → C → D → E → F) {a a' : A} {b b' : B} {c c' : C} {d d' : D} {e e' : E} →
+    a ≡ a' → b ≡ b' → c ≡ c' → d ≡ d' → e ≡ e' → make a b c d e ≡ make a' b' c' d' e'
+alike-five make p q r s t = cc
+
+pub alike-four : {A B C D E : Type 0} (make : A → B → C → D → E) {a a' : A} {b b' : B} {c c' : C} {d d' : D} →
+    a ≡ a' → b ≡ b' → c ≡ c' → d ≡ d' → make a b c d ≡ make a' b' c' d'
+alike-four make p q r s = cc
+
 pub alike-words : {a b c d e f g h i j k l A B C D E F G H I J K L : ℤ} →
     a ≡ A → b ≡ B → c ≡ C → d ≡ D → e ≡ E → f ≡ F → g ≡ G → h ≡ H → i ≡ I → j ≡ J → k ≡ K → l ≡ L →
     _≡_ {A = Words}

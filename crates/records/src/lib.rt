@@ -3,7 +3,8 @@
 
 ghost use mathlib.Core.Path.{_≡_};
 ghost use Rattle.records.specs.Lambda.{quarterOf, thirdOf};
-ghost use Rattle.records.specs.Packing.{pairFits, pairWord, packedPair, offsetFits, offsetWord, lastFits, lastWord, recordFits, recordWords, packedRecord};
+ghost use Rattle.records.specs.Packing.{pairFits, pairWord, packedPair, offsetFits, offsetWord, lastFits, lastWord, offsetsFit, pairsFit, recordFits, recordWords, packedRecord};
+ghost use Rattle.records.specs.Parts.{offsetWords, pairWords, joinedWords, offsetsOf, pairsOf, joinedRecord};
 ghost use Rattle.records.specs.Unpacking.{pairOf, offsetOf, recordOf};
 
 // Where a sample is, or that there is none.
@@ -48,6 +49,40 @@ pub struct Words {
     pub window_y: i32,
     pub sad: i32,
     pub last: i32,
+}
+
+// A record and its words are put together from parts: the offsets, the pairs, and the rest. The prover's
+// walk of a function grows with the square of its steps, so that three short ones are quicker than one.
+pub struct OffsetWords {
+    pub full: i32,
+    pub overlay: i32,
+    pub u: i32,
+    pub v: i32,
+    pub average: i32,
+}
+
+pub struct PairWords {
+    pub pos: i32,
+    pub cpos: i32,
+    pub predictor: i32,
+    pub window_x: i32,
+    pub window_y: i32,
+}
+
+pub struct Offsets {
+    pub full: Offset,
+    pub overlay: Offset,
+    pub u: Offset,
+    pub v: Offset,
+    pub average: Offset,
+}
+
+pub struct Pairs {
+    pub pos: Pair,
+    pub cpos: Pair,
+    pub predictor: Pair,
+    pub window_x: Pair,
+    pub window_y: Pair,
 }
 
 pub enum PackedPair {
@@ -156,65 +191,110 @@ fn last_word(lambda: i32, flags: i32) -> i32
     whole::wrapping_add(lambda << 2, flags)
 }
 
-pub fn record_fits(given: Record) -> bool
-    ensures { λ r. ⌜ r ≡ recordFits given ⌝ }
+fn offsets_fit(given: Record) -> bool
+    ensures { λ r. ⌜ r ≡ offsetsFit given ⌝ }
 {
     let full = given.full;
     let overlay = given.overlay;
     let u = given.u;
     let v = given.v;
     let average = given.average;
+    offset_fits(full)
+        & offset_fits(overlay)
+        & offset_fits(u)
+        & offset_fits(v)
+        & offset_fits(average)
+}
+
+fn pairs_fit(given: Record) -> bool
+    ensures { λ r. ⌜ r ≡ pairsFit given ⌝ }
+{
     let pos = given.pos;
     let cpos = given.cpos;
     let predictor = given.predictor;
     let window_x = given.window_x;
     let window_y = given.window_y;
-    let lambda = given.lambda;
-    let flags = given.flags;
-    let offsets = offset_fits(full)
-        & offset_fits(overlay)
-        & offset_fits(u)
-        & offset_fits(v)
-        & offset_fits(average);
-    let pairs = pair_fits(pos)
+    pair_fits(pos)
         & pair_fits(cpos)
         & pair_fits(predictor)
         & pair_fits(window_x)
-        & pair_fits(window_y);
-    offsets & pairs & last_fits(lambda, flags)
+        & pair_fits(window_y)
+}
+
+pub fn record_fits(given: Record) -> bool
+    ensures { λ r. ⌜ r ≡ recordFits given ⌝ }
+{
+    let lambda = given.lambda;
+    let flags = given.flags;
+    offsets_fit(given) & pairs_fit(given) & last_fits(lambda, flags)
+}
+
+fn offset_words(given: Record) -> OffsetWords
+    ensures { λ r. ⌜ r ≡ offsetWords given ⌝ }
+{
+    let full = given.full;
+    let overlay = given.overlay;
+    let u = given.u;
+    let v = given.v;
+    let average = given.average;
+    OffsetWords {
+        full: offset_word(full),
+        overlay: offset_word(overlay),
+        u: offset_word(u),
+        v: offset_word(v),
+        average: offset_word(average),
+    }
+}
+
+fn pair_words(given: Record) -> PairWords
+    ensures { λ r. ⌜ r ≡ pairWords given ⌝ }
+{
+    let pos = given.pos;
+    let cpos = given.cpos;
+    let predictor = given.predictor;
+    let window_x = given.window_x;
+    let window_y = given.window_y;
+    PairWords {
+        pos: pair_word(pos),
+        cpos: pair_word(cpos),
+        predictor: pair_word(predictor),
+        window_x: pair_word(window_x),
+        window_y: pair_word(window_y),
+    }
+}
+
+pub fn joined_words(offsets: OffsetWords, pairs: PairWords, sad: i32, last: i32) -> Words
+    ensures { λ r. ⌜ r ≡ joinedWords offsets pairs sad last ⌝ }
+{
+    Words {
+        full: offsets.full,
+        overlay: offsets.overlay,
+        u: offsets.u,
+        v: offsets.v,
+        average: offsets.average,
+        pos: pairs.pos,
+        cpos: pairs.cpos,
+        predictor: pairs.predictor,
+        window_x: pairs.window_x,
+        window_y: pairs.window_y,
+        sad: sad,
+        last: last,
+    }
 }
 
 // The 12 words. Of a record that doesn't fit they are not all of it.
 pub fn words_of(given: Record) -> Words
     ensures { λ r. ⌜ r ≡ recordWords given ⌝ }
 {
-    let full = given.full;
-    let overlay = given.overlay;
-    let u = given.u;
-    let v = given.v;
-    let average = given.average;
-    let pos = given.pos;
-    let cpos = given.cpos;
-    let predictor = given.predictor;
-    let window_x = given.window_x;
-    let window_y = given.window_y;
     let sad = given.sad;
     let lambda = given.lambda;
     let flags = given.flags;
-    Words {
-        full: offset_word(full),
-        overlay: offset_word(overlay),
-        u: offset_word(u),
-        v: offset_word(v),
-        average: offset_word(average),
-        pos: pair_word(pos),
-        cpos: pair_word(cpos),
-        predictor: pair_word(predictor),
-        window_x: pair_word(window_x),
-        window_y: pair_word(window_y),
-        sad: sad,
-        last: last_word(lambda, flags),
-    }
+    joined_words(
+        offset_words(given),
+        pair_words(given),
+        sad,
+        last_word(lambda, flags),
+    )
 }
 
 pub fn pack_record(given: Record) -> Packed
@@ -226,34 +306,74 @@ pub fn pack_record(given: Record) -> Packed
     Packed::Misfit
 }
 
-pub fn unpack_record(words: Words) -> Record
-    ensures { λ r. ⌜ r ≡ recordOf words ⌝ }
+fn offsets_of(words: Words) -> Offsets
+    ensures { λ r. ⌜ r ≡ offsetsOf words ⌝ }
 {
     let full = words.full;
     let overlay = words.overlay;
     let u = words.u;
     let v = words.v;
     let average = words.average;
-    let pos = words.pos;
-    let cpos = words.cpos;
-    let predictor = words.predictor;
-    let window_x = words.window_x;
-    let window_y = words.window_y;
-    let sad = words.sad;
-    let last = words.last;
-    Record {
+    Offsets {
         full: offset_of(full),
         overlay: offset_of(overlay),
         u: offset_of(u),
         v: offset_of(v),
         average: offset_of(average),
+    }
+}
+
+fn pairs_of(words: Words) -> Pairs
+    ensures { λ r. ⌜ r ≡ pairsOf words ⌝ }
+{
+    let pos = words.pos;
+    let cpos = words.cpos;
+    let predictor = words.predictor;
+    let window_x = words.window_x;
+    let window_y = words.window_y;
+    Pairs {
         pos: unpack_pair(pos),
         cpos: unpack_pair(cpos),
         predictor: unpack_pair(predictor),
         window_x: unpack_pair(window_x),
         window_y: unpack_pair(window_y),
-        sad: sad,
-        lambda: last >> 2,
-        flags: last & 3,
     }
+}
+
+pub fn joined_record(offsets: Offsets, pairs: Pairs, sad: i32, lambda: i32, flags: i32) -> Record
+    ensures { λ r. ⌜ r ≡ joinedRecord offsets pairs sad lambda flags ⌝ }
+{
+    let full = offsets.full;
+    let overlay = offsets.overlay;
+    let u = offsets.u;
+    let v = offsets.v;
+    let average = offsets.average;
+    let pos = pairs.pos;
+    let cpos = pairs.cpos;
+    let predictor = pairs.predictor;
+    let window_x = pairs.window_x;
+    let window_y = pairs.window_y;
+    Record {
+        full: full,
+        overlay: overlay,
+        u: u,
+        v: v,
+        average: average,
+        pos: pos,
+        cpos: cpos,
+        predictor: predictor,
+        window_x: window_x,
+        window_y: window_y,
+        sad: sad,
+        lambda: lambda,
+        flags: flags,
+    }
+}
+
+pub fn unpack_record(words: Words) -> Record
+    ensures { λ r. ⌜ r ≡ recordOf words ⌝ }
+{
+    let sad = words.sad;
+    let last = words.last;
+    joined_record(offsets_of(words), pairs_of(words), sad, last >> 2, last & 3)
 }
