@@ -33,9 +33,9 @@ bool evaluate_agrees(size_t line, struct numbers inputs, struct numbers answers)
     bool agrees = used_up(&inputs);
     if (agrees) {
         struct lent bests = lend(NUMBERS * n, line);
-        uint32_t number = hirupango_evaluate(q, records, WORDS * n, p[0].at, p[0].length, p[1].at, p[1].length, p[2].at,
-                                             p[2].length, p[3].at, p[3].length, p[4].at, p[4].length, p[5].at,
-                                             p[5].length, bests.at, bests.length);
+        uint32_t number = noted(hirupango_evaluate(q, records, WORDS * n, p[0].at, p[0].length, p[1].at, p[1].length, p[2].at,
+                                                   p[2].length, p[3].at, p[3].length, p[4].at, p[4].length, p[5].at,
+                                                   p[5].length, bests.at, bests.length));
         agrees = number == 0 && holds(bests, NUMBERS * n, &answers) && used_up(&answers);
         free(bests.at);
     }

@@ -12,8 +12,8 @@ bool finish_agrees(size_t line, struct numbers inputs, struct numbers answers) {
         struct lent vectors = lend(3 * n, 0), output = lend(2 * n, line);
         start_with(vectors, 3 * n, 0);
         start_with(output, asked ? 2 * n : 0, 0);
-        uint32_t number = hirupango_finish(nx, ny, indices, count, bests, 4 * count, diagonal, asked, vectors.at,
-                                           vectors.length, output.at, output.length);
+        uint32_t number = noted(hirupango_finish(nx, ny, indices, count, bests, 4 * count, diagonal, asked, vectors.at,
+                                                 vectors.length, output.at, output.length));
         agrees = number == 0 && holds(vectors, 3 * n, &answers) && holds(output, asked ? 2 * n : 0, &answers) &&
                  used_up(&answers);
         free(vectors.at);

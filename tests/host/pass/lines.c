@@ -4,6 +4,19 @@
 /* No plane of the oracle's is as long: where a number is missing, another stands in the length's place. */
 enum { MORE = 5, BEHIND = 3, MOST_BYTES = 1 << 24 };
 
+static uint32_t refusal;
+
+uint32_t noted(uint32_t number) {
+    if (refusal == 0) refusal = number;
+    return number;
+}
+
+uint32_t told_refusal(void) {
+    uint32_t number = refusal;
+    refusal = 0;
+    return number;
+}
+
 int64_t take(struct numbers *from) {
     if (from->left == 0) {
         from->short_of = true;

@@ -62,6 +62,10 @@ struct hirupango_settings take_settings(struct numbers *from, size_t lengths[3],
 /* Whether a done plan's slots and diagonal are the next answers. */
 bool made_agrees(struct hirupango_settings s, struct numbers *answers);
 
+/* The number with which an export answered is noted on its way; the first that was no 0 is told, once. */
+uint32_t noted(uint32_t number);
+uint32_t told_refusal(void);
+
 /* The kinds: whether what is answered from the inputs is what stands in the answers. */
 bool plan_agrees(size_t line, struct numbers inputs, struct numbers answers);
 bool evaluate_agrees(size_t line, struct numbers inputs, struct numbers answers);

@@ -1,5 +1,6 @@
-/* pass KIND < LINES: asks an exported function what the Rust was asked, and compares every number. Names each line that
- * differs; its last line counts. */
+/* pass KIND [refusals] < LINES: asks an exported function what the Rust was asked, and compares every number. Names each
+ * line that differs and, where refusals are asked for, the number with which the port refused it, or 0; its last line
+ * counts. */
 #include "lines.h"
 
 long read(int file, void *to, size_t n);
@@ -75,10 +76,11 @@ static size_t longest_line(const char *text, const char *end) {
 }
 
 int main(int count, char **words) {
+    bool refusals = count == 3 && strcmp(words[2], "refusals") == 0;
     size_t kind = 0;
-    while (kind < KINDS && (count != 2 || strcmp(words[1], kinds[kind].name) != 0)) kind++;
+    while (kind < KINDS && (count != 2 + refusals || strcmp(words[1], kinds[kind].name) != 0)) kind++;
     if (kind == KINDS) {
-        printf("usage: pass KIND < LINES\n");
+        printf("usage: pass KIND [refusals] < LINES\n");
         return 2;
     }
     size_t bytes = 0;
@@ -93,10 +95,13 @@ int main(int count, char **words) {
             bool agrees = read_line(&at, numbers, &length, &split);
             struct numbers inputs = {numbers, split, false}, answers = {numbers + split, length - split, false};
             agrees = agrees && kinds[kind].agrees(line, inputs, answers);
+            uint32_t refusal = told_refusal();
             cases++;
             if (!agrees) {
                 differ++;
-                printf("differs: line %ld\n", (long)line);
+                printf("differs: line %ld", (long)line);
+                if (refusals) printf(", refused with %d", (int)refusal);
+                printf("\n");
             }
         }
     }

@@ -52,9 +52,9 @@ static void leave(struct pass *p) {
 
 static uint32_t evaluated(const struct pass *p, struct lent records, struct lent bests) {
     const struct bytes *b = p->planes;
-    return hirupango_evaluate(p->request, records.at, WORDS * p->blocks, b[0].at, b[0].length, b[1].at, b[1].length, b[2].at,
-                              b[2].length, b[3].at, b[3].length, b[4].at, b[4].length, b[5].at, b[5].length, bests.at,
-                              bests.length);
+    return noted(hirupango_evaluate(p->request, records.at, WORDS * p->blocks, b[0].at, b[0].length, b[1].at, b[1].length,
+                                    b[2].at, b[2].length, b[3].at, b[3].length, b[4].at, b[4].length, b[5].at, b[5].length,
+                                    bests.at, bests.length));
 }
 
 /* The vectors that planning was given are those that finishing stores into; output starts with zeros. */
@@ -63,8 +63,8 @@ static bool finished_agrees(const struct pass *p, struct lent indices, struct le
     size_t n = p->blocks, words = p->output_asked ? 2 * n : 0;
     struct lent output = lend(words, line);
     start_with(output, words, 0);
-    uint32_t number = hirupango_finish(p->settings.grid.x, p->settings.grid.y, indices.at, n, bests.at, NUMBERS * n, diagonal,
-                                       p->output_asked, p->vectors, 3 * n, output.at, output.length);
+    uint32_t number = noted(hirupango_finish(p->settings.grid.x, p->settings.grid.y, indices.at, n, bests.at, NUMBERS * n,
+                                             diagonal, p->output_asked, p->vectors, 3 * n, output.at, output.length));
     bool agrees = number == 0;
     for (size_t i = 0; i < 3 * n; i++) agrees = p->vectors[i] == take(answers) && agrees;
     agrees = holds(output, words, answers) && agrees;
@@ -76,8 +76,9 @@ static bool steps_agree(const struct pass *p, size_t line, struct numbers answer
     size_t n = p->blocks;
     const struct bytes *b = p->planes;
     struct lent records = lend(WORDS * n, line), indices = lend(n, line), bests = lend(NUMBERS * n, line);
-    uint32_t number = hirupango_plan(p->settings, p->order, 2 * n, p->vectors, 3 * n, b[0].at, b[0].length, b[1].at, b[1].length,
-                                     b[2].at, b[2].length, records.at, records.length, indices.at, indices.length);
+    uint32_t number = noted(hirupango_plan(p->settings, p->order, 2 * n, p->vectors, 3 * n, b[0].at, b[0].length, b[1].at,
+                                           b[1].length, b[2].at, b[2].length, records.at, records.length, indices.at,
+                                           indices.length));
     bool agrees;
     if (number != 0) {
         agrees = (number == 1 || number == 6) && take(&answers) == -1 && holds(records, 0, &answers) && holds(indices, 0, &answers);

@@ -80,8 +80,8 @@ bool plan_agrees(size_t line, struct numbers inputs, struct numbers answers) {
         const uint8_t *bytes = unread_bytes();
         struct lent records = lend(WORDS * n, line), indices = lend(n, line);
         uint32_t number =
-            hirupango_plan(s, order, 2 * n, vectors, 3 * held, bytes, lengths[0], bytes, lengths[1], bytes, lengths[2],
-                           records.at, records.length, indices.at, indices.length);
+            noted(hirupango_plan(s, order, 2 * n, vectors, 3 * held, bytes, lengths[0], bytes, lengths[1], bytes, lengths[2],
+                                 records.at, records.length, indices.at, indices.length));
         agrees = number == 0 ? done_agrees(s, n, records, indices, answers)
                              : refused_agrees(number, lengths, records, indices, answers);
         free(records.at);
