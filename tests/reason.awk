@@ -26,10 +26,14 @@ function plain(text) {
 # short TEXT: at most so much of a term that it can be read
 function short(text) {
     text = plain(text)
-    return length(text) > 240 ? substr(text, 1, 240) ".." : text
+    if (text ~ /^\([^()]*\)$/) text = substr(text, 2, length(text) - 2)
+    if (length(text) <= 240) return text
+    text = substr(text, 1, 240)
+    sub(/[\300-\377][\200-\277]*$/, "", text) # a letter that was cut in two
+    return text ".."
 }
 
-# ends TERM: of `Path TYPE LEFT RIGHT` puts LEFT and RIGHT into those names; 0 where it has another form
+# ends TERM: of `Path TYPE LEFT RIGHT` puts LEFT and RIGHT into the names left and right; 0 where it has another form
 function ends(term, i, c, depth, part, n) {
     n = 0
     part = ""
@@ -61,14 +65,18 @@ function quoted(text, at) {
 }
 
 # difference TEXT: the two sides of what was worked out, in a line; "" where nothing was
-function difference(text, at, one, other) {
+function difference(text, at, one, other, from, to) {
     at = match(text, /computed as far as they go, the two types (differ only where|first differ where|are)/)
     if (at && text ~ /\(found\)/) {
         one = quoted(substr(text, at))
         other = quoted(rest)
         if (ends(one)) {
-            one = right
-            other = left
+            from = left
+            to = right
+            if (ends(other) && (left == from || right == to)) {
+                one = left == from ? to : from
+                other = left == from ? right : left
+            }
         }
         return short(one) " expected, " short(other) " found"
     }

@@ -1,7 +1,7 @@
 -- The block that was gathered has the definition's sum, and its area is the power that log2 of it gives. Assumes nothing.
 use borrow.Author.Needs.{needs}
 use borrow.Author.Tests.{lt-ltb, le-ltb}
-use mathlib.Core.Path.{_≡_, ap, _∙_}
+use mathlib.Core.Path.{_≡_, refl, ap, _∙_}
 use Prim.Native.Nat.{ℕ, _*_, _/_, _≤_, _<_}
 use native.Mathlib.Nat.{mul-comm}
 use native.Mathlib.Omega.{arith}
@@ -23,7 +23,7 @@ number c = record { sfits = c .known-told .given .0 .1 }
 
 returns : tie.Need-returns
 unfolding averageOf
-returns c = rw (c .enum-told .given .1)
+returns c = rw (c .enum-told .given .1) refl
 
 returns-2 : tie.Need-returns-2
 unfolding averageOf

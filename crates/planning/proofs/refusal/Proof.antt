@@ -1,7 +1,7 @@
 -- The tests one after the other. Assumes nothing.
 use borrow.Author.Needs.{needs}
 use borrow.Author.Tests.{not-true, not-false}
-use mathlib.Core.Path.{_≡_, sym, _∙_}
+use mathlib.Core.Path.{_≡_, refl, sym, _∙_}
 use mathlib.Core.Bool.{true}
 use native.Mathlib.Omega.{arith}
 use lib.ListN.{length}
@@ -106,7 +106,7 @@ returns-8 : tie.Need-returns-8
 unfolding refusalOf
 returns-8 c =
     let e = sym (rw (n-is (c .before .before .before .before .before .before .before .before .before .before .before .before .before .before)) at (c .before .all-fit .ensures)) ∙ not-false _ (c .if7 .left) in
-    simp (first (c .before .before .before .before .before .before .before .before .before .before .before .before), second (c .before .before .before .before .before .before .before .before .before .before), components (c .before .before .before .before .before .before .before .before), third (c .before .before .before .before .before .before), fourth (c .before .before .before .before), fifth (c .before .before), e)
+    simp (first (c .before .before .before .before .before .before .before .before .before .before .before .before), second (c .before .before .before .before .before .before .before .before .before .before), components (c .before .before .before .before .before .before .before .before), third (c .before .before .before .before .before .before), fourth (c .before .before .before .before), fifth (c .before .before), e) refl
 
 pub refusal-spec : {M : Type 1} → statement M
 refusal-spec =
