@@ -51,8 +51,8 @@ pub struct Words {
     pub last: i32,
 }
 
-// A record and its words are put together from parts: the offsets, the pairs, and the rest. The prover's
-// walk of a function grows with the square of its steps, so that three short ones are quicker than one.
+// A record and its words are put together from parts: the offsets, the pairs, and the rest. So whoever
+// reads them, here or from a slice, has no function of twelve reads, whose walk the prover is slow at.
 pub struct OffsetWords {
     pub full: i32,
     pub overlay: i32,
