@@ -2,22 +2,37 @@
 use mathlib.Core.Path.{_≡_, ap, _∙_}
 use Prim.Native.Nat.{ℕ, _+_, _≤_}
 use native.Mathlib.Omega.{arith}
+use lib.Dec.{T, leb}
 use lib.IntN.{ℤ, natAbs}
 use mir.Facts.{toZ-ofZ}
 use mir.Syntax.{w16}
 use mir.Val.{toZ, ofZ}
-use Rattle.whole.specs.Interval.{Within, within-add, within-sub, Is, is-arg, fits}
+use Rattle.whole.specs.Interval.{Within, within-more, within-add, within-sub, Is, is-arg, fits}
 use Rattle.distance.specs.declared.Quad.{Quad}
 use Rattle.distance.specs.declared.Tile.{Tile}
-use Rattle.distance.specs.Distance.{sum}
+use Rattle.distance.specs.declared.Steps.{Steps}
+use Rattle.distance.specs.Distance.{sum, hadamardAt, tileSum}
+use Rattle.distance.specs.Hadamard.{plain}
 use Rattle.distance.specs.Absolute.{abs-small}
-use Rattle.distance.specs.Parts.{Small, SmallRows, turned, rowsTurned, flipped, rowPlain}
+use Rattle.distance.specs.Steps.{columnStep, tileOf, stepsOf}
+use Rattle.distance.specs.Parts.{entry, Small, SmallRows, turned, rowsTurned, rowsAdded, rowsSubtracted, columnsTurned, rowPlain}
 
 pub quads-alike : {a b c d a′ b′ c′ d′ : ℤ} → a ≡ a′ → b ≡ b′ → c ≡ c′ → d ≡ d′ → _≡_ {A = Quad} (record { a = a; b = b; c = c; d = d }) (record { a = a′; b = b′; c = c′; d = d′ })
 quads-alike e f g h = cc
 
 pub tiles-alike : {a b c d a′ b′ c′ d′ : Quad} → a ≡ a′ → b ≡ b′ → c ≡ c′ → d ≡ d′ → _≡_ {A = Tile} (record { a = a; b = b; c = c; d = d }) (record { a = a′; b = b′; c = c′; d = d′ })
 tiles-alike e f g h = cc
+
+pub added-alike : {r p q p′ q′ : Quad} → r ≡ rowsAdded p q → p ≡ p′ → q ≡ q′ → r ≡ rowsAdded p′ q′
+added-alike e f g = rw (e, f, g)
+
+pub subtracted-alike : {r p q p′ q′ : Quad} → r ≡ rowsSubtracted p q → p ≡ p′ → q ≡ q′ → r ≡ rowsSubtracted p′ q′
+subtracted-alike e f g = rw (e, f, g)
+
+-- the two tiles, and the sum of the second one's absolute values, are a tile's steps
+pub steps-alike : {columns values : Tile} {total : ℕ} (d : ℕ → ℕ → ℤ) → columns ≡ tileOf (columnStep d) → values ≡ tileOf (hadamardAt d) → total ≡ plain (entry values) → _≡_ {A = Steps} (record { columns = columns; values = values; total = total }) (stepsOf d)
+unfolding tileSum sum
+steps-alike d e f g = rw (e, g, f)
 
 -- ---- ranges
 pub small-turned : {n : ℕ} {q : Quad} → Small n q → Small ((n + n) + (n + n)) (turned q)
@@ -31,9 +46,25 @@ small-turned s =
 pub rows-turned : {n : ℕ} {t : Tile} → SmallRows n t → SmallRows ((n + n) + (n + n)) (rowsTurned t)
 rows-turned s = record { in-a = small-turned (s .in-a); in-b = small-turned (s .in-b); in-c = small-turned (s .in-c); in-d = small-turned (s .in-d) }
 
-pub rows-flipped : {n : ℕ} {t : Tile} → SmallRows n t → SmallRows n (flipped t)
-rows-flipped s =
-    record { in-a = record { at-a = s .in-a .at-a; at-b = s .in-b .at-a; at-c = s .in-c .at-a; at-d = s .in-d .at-a }; in-b = record { at-a = s .in-a .at-b; at-b = s .in-b .at-b; at-c = s .in-c .at-b; at-d = s .in-d .at-b }; in-c = record { at-a = s .in-a .at-c; at-b = s .in-b .at-c; at-c = s .in-c .at-c; at-d = s .in-d .at-c }; in-d = record { at-a = s .in-a .at-d; at-b = s .in-b .at-d; at-c = s .in-c .at-d; at-d = s .in-d .at-d } }
+pub small-added : {n : ℕ} {p q : Quad} → Small n p → Small n q → Small (n + n) (rowsAdded p q)
+small-added s t =
+    record { at-a = within-add (s .at-a) (t .at-a); at-b = within-add (s .at-b) (t .at-b); at-c = within-add (s .at-c) (t .at-c); at-d = within-add (s .at-d) (t .at-d) }
+
+pub small-subtracted : {n : ℕ} {p q : Quad} → Small n p → Small n q → Small (n + n) (rowsSubtracted p q)
+small-subtracted s t =
+    record { at-a = within-sub (s .at-a) (t .at-a); at-b = within-sub (s .at-b) (t .at-b); at-c = within-sub (s .at-c) (t .at-c); at-d = within-sub (s .at-d) (t .at-d) }
+
+pub columns-turned : {n : ℕ} {t : Tile} → SmallRows n t → SmallRows ((n + n) + (n + n)) (columnsTurned t)
+columns-turned s =
+    let s0 = small-added (s .in-a) (s .in-b) in
+    let s1 = small-added (s .in-c) (s .in-d) in
+    let d0 = small-subtracted (s .in-a) (s .in-b) in
+    let d1 = small-subtracted (s .in-c) (s .in-d) in
+    record { in-a = small-added s0 s1; in-b = small-subtracted s0 s1; in-c = small-added d0 d1; in-d = small-subtracted d0 d1 }
+
+-- within wider bounds too
+pub small-more : {n m : ℕ} {q : Quad} → Small n q → T (leb n m) → Small m q
+small-more s t = record { at-a = within-more (s .at-a) t t; at-b = within-more (s .at-b) t t; at-c = within-more (s .at-c) t t; at-d = within-more (s .at-d) t t }
 
 pub plain-small : {q : Quad} → Small 4080 q → rowPlain q ≤ 16320
 unfolding sum

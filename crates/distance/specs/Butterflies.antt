@@ -1,15 +1,14 @@
--- The butterflies give the Hadamard values of the sign table (01, "Evaluating and choosing": SATD), whichever of the two steps is taken
--- first. Assumes nothing.
-use mathlib.Core.Path.{_≡_, refl, ap, sym, _∙_}
+-- The butterflies give the Hadamard values of the sign table (01, "Evaluating and choosing": SATD), columns first (02, Nine). Assumes nothing.
+use mathlib.Core.Path.{_≡_, refl, sym, _∙_}
 use Prim.Native.Nat.{ℕ, zero, suc, _<_}
 use native.Mathlib.Omega.{arith}
-use lib.IntN.{natAbs}
+use lib.IntN.{ℤ, _+ℤ_, _-ℤ_}
 use Rattle.distance.specs.declared.Quad.{Quad}
 use Rattle.distance.specs.declared.Tile.{Tile}
-use Rattle.distance.specs.Distance.{tileSum}
-use Rattle.distance.specs.Sums.{sum-eq}
-use Rattle.distance.specs.Hadamard.{along, along-same, along0, along1, along2, along3, plain, rows-first, columns-first}
-use Rattle.distance.specs.Parts.{pick, rowOf, entry, turned, rowsTurned, columnOf, flipped}
+use Rattle.distance.specs.Distance.{hadamardAt}
+use Rattle.distance.specs.Hadamard.{along, along-same, along0, along1, along2, along3, columns-first}
+use Rattle.distance.specs.Parts.{pick, entry, turned, rowsTurned, rowsAdded, rowsSubtracted, columnsTurned}
+use Rattle.distance.specs.Steps.{columnStep, rowStep, quadOf, tileOf}
 
 -- ---- one step: a turned row holds the values of the row
 turned-at : (q : Quad) (j : ℕ) → j < 4 → pick (turned q) j ≡ along (pick q) j
@@ -25,39 +24,73 @@ rows-at t (suc zero) j l = turned-at (t .b) j l
 rows-at t (suc (suc zero)) j l = turned-at (t .c) j l
 rows-at t (suc (suc (suc y))) j l = turned-at (t .d) j l
 
--- rows for columns
-flipped-row : (t : Tile) (y : ℕ) → rowOf (flipped t) y ≡ columnOf t y
-flipped-row t zero = refl
-flipped-row t (suc zero) = refl
-flipped-row t (suc (suc zero)) = refl
-flipped-row t (suc (suc (suc y))) = refl
+-- ---- the column step: in each column the rows' numbers take the butterfly's place
+added-at : (p q : Quad) (x : ℕ) → pick (rowsAdded p q) x ≡ pick p x +ℤ pick q x
+added-at p q zero = refl
+added-at p q (suc zero) = refl
+added-at p q (suc (suc zero)) = refl
+added-at p q (suc (suc (suc x))) = refl
 
-column-at : (t : Tile) (y x : ℕ) → pick (columnOf t y) x ≡ entry t x y
-column-at t y zero = refl
-column-at t y (suc zero) = refl
-column-at t y (suc (suc zero)) = refl
-column-at t y (suc (suc (suc x))) = refl
+subtracted-at : (p q : Quad) (x : ℕ) → pick (rowsSubtracted p q) x ≡ pick p x -ℤ pick q x
+subtracted-at p q zero = refl
+subtracted-at p q (suc zero) = refl
+subtracted-at p q (suc (suc zero)) = refl
+subtracted-at p q (suc (suc (suc x))) = refl
 
-flipped-at : (t : Tile) (y x : ℕ) → entry (flipped t) y x ≡ entry t x y
-flipped-at t y x = ap (λ (q : Quad). pick q x) (flipped-row t y) ∙ column-at t y x
+columns-at : (t : Tile) (i x : ℕ) → i < 4 → entry (columnsTurned t) i x ≡ columnStep (entry t) i x
+columns-at t i x l = go i l
+  where
+    column : ℕ → ℤ
+    column y = entry t y x
+
+    go : (i : ℕ) → i < 4 → entry (columnsTurned t) i x ≡ columnStep (entry t) i x
+    go zero l = simp added-at (sym (along0 column))
+    go (suc zero) l = simp (added-at, subtracted-at) (sym (along1 column))
+    go (suc (suc zero)) l = simp (added-at, subtracted-at) (sym (along2 column))
+    go (suc (suc (suc zero))) l = simp subtracted-at (sym (along3 column))
+    go (suc (suc (suc (suc n)))) l = absurd (omega arith)
+
+-- ---- a tile is what it holds
+row-is : (q : Quad) (v : ℕ → ℤ) → ((x : ℕ) → x < 4 → pick q x ≡ v x) → q ≡ quadOf v
+row-is q v e =
+    let e0 : q .a ≡ v 0 = e 0 (omega arith) in
+    let e1 : q .b ≡ v 1 = e 1 (omega arith) in
+    let e2 : q .c ≡ v 2 = e 2 (omega arith) in
+    let e3 : q .d ≡ v 3 = e 3 (omega arith) in
+    rw (← e0, ← e1, ← e2, ← e3)
+
+tile-is : (t : Tile) (d : ℕ → ℕ → ℤ) → ((y x : ℕ) → y < 4 → x < 4 → entry t y x ≡ d y x) → t ≡ tileOf d
+tile-is t d e =
+    let a : t .a ≡ quadOf (d 0) = row-is (t .a) (d 0) (λ x l. e 0 x (omega arith) l) in
+    let b : t .b ≡ quadOf (d 1) = row-is (t .b) (d 1) (λ x l. e 1 x (omega arith) l) in
+    let c : t .c ≡ quadOf (d 2) = row-is (t .c) (d 2) (λ x l. e 2 x (omega arith) l) in
+    let d′ : t .d ≡ quadOf (d 3) = row-is (t .d) (d 3) (λ x l. e 3 x (omega arith) l) in
+    rw (← a, ← b, ← c, ← d′)
+
+quad-at : (v : ℕ → ℤ) (x : ℕ) → x < 4 → pick (quadOf v) x ≡ v x
+quad-at v zero l = refl
+quad-at v (suc zero) l = refl
+quad-at v (suc (suc zero)) l = refl
+quad-at v (suc (suc (suc zero))) l = refl
+quad-at v (suc (suc (suc (suc x)))) l = absurd (omega arith)
+
+tile-at : (d : ℕ → ℕ → ℤ) (y x : ℕ) → y < 4 → x < 4 → entry (tileOf d) y x ≡ d y x
+tile-at d zero x l m = quad-at (d 0) x m
+tile-at d (suc zero) x l m = quad-at (d 1) x m
+tile-at d (suc (suc zero)) x l m = quad-at (d 2) x m
+tile-at d (suc (suc (suc zero))) x l m = quad-at (d 3) x m
+tile-at d (suc (suc (suc (suc y)))) x l m = absurd (omega arith)
 
 -- ---- both steps
-module _ (t : Tile) where
-  pub rows-then-columns : plain (entry (flipped (rowsTurned (flipped (rowsTurned t))))) ≡ tileSum (entry t)
-  unfolding tileSum
-  rows-then-columns =
-      let once = rowsTurned t in
-      sum-eq 4 (λ i l. sum-eq 4 (λ j m. ap natAbs
-      (flipped-at (rowsTurned (flipped once)) i j
-      ∙ rows-at (flipped once) j i l
-      ∙ along-same i (λ y n. flipped-at once j y ∙ rows-at t y j m)
-      ∙ sym (rows-first (entry t) i j))))
+pub column-step : (t : Tile) → columnsTurned t ≡ tileOf (columnStep (entry t))
+column-step t = tile-is (columnsTurned t) (columnStep (entry t)) (λ i x l m. columns-at t i x l)
 
-  pub columns-then-rows : plain (entry (rowsTurned (flipped (rowsTurned (flipped t))))) ≡ tileSum (entry t)
-  unfolding tileSum
-  columns-then-rows =
-      let once = rowsTurned (flipped t) in
-      sum-eq 4 (λ i l. sum-eq 4 (λ j m. ap natAbs
-      (rows-at (flipped once) i j m
-      ∙ along-same j (λ x n. flipped-at once i x ∙ rows-at (flipped t) x i l ∙ along-same i (λ y u. flipped-at t x y))
-      ∙ sym (columns-first (entry t) i j))))
+-- The row step, after the column step, leaves the Hadamard values.
+pub steps-value : (d : ℕ → ℕ → ℤ) (i j : ℕ) → rowStep (columnStep d) i j ≡ hadamardAt d i j
+steps-value d i j = sym (columns-first d i j)
+
+pub row-step : (d : ℕ → ℕ → ℤ) → rowsTurned (tileOf (columnStep d)) ≡ tileOf (hadamardAt d)
+row-step d = tile-is (rowsTurned (tileOf (columnStep d))) (hadamardAt d) (λ i j l m. rows-at (tileOf (columnStep d)) i j m ∙ held i j l ∙ steps-value d i j)
+  where
+    held : (i j : ℕ) → i < 4 → along (entry (tileOf (columnStep d)) i) j ≡ rowStep (columnStep d) i j
+    held i j l = along-same j (λ x n. tile-at (columnStep d) i x l n)

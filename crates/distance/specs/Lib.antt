@@ -6,4 +6,5 @@ pub mod Hadamard
 pub mod Absolute
 pub mod Sums
 pub mod Parts
+pub mod Steps
 pub mod Butterflies

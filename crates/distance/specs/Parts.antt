@@ -55,12 +55,21 @@ turned q =
 abbrev pub rowsTurned : Tile → Tile
 rowsTurned t = record { a = turned (t .a); b = turned (t .b); c = turned (t .c); d = turned (t .d) }
 
--- rows become columns
-abbrev pub columnOf : Tile → ℕ → Quad
-columnOf t x = record { a = pick (t .a) x; b = pick (t .b) x; c = pick (t .c) x; d = pick (t .d) x }
+-- Two rows added, and one taken from the other: number by number.
+abbrev pub rowsAdded : Quad → Quad → Quad
+rowsAdded p q = record { a = p .a +ℤ q .a; b = p .b +ℤ q .b; c = p .c +ℤ q .c; d = p .d +ℤ q .d }
 
-abbrev pub flipped : Tile → Tile
-flipped t = record { a = columnOf t 0; b = columnOf t 1; c = columnOf t 2; d = columnOf t 3 }
+abbrev pub rowsSubtracted : Quad → Quad → Quad
+rowsSubtracted p q = record { a = p .a -ℤ q .a; b = p .b -ℤ q .b; c = p .c -ℤ q .c; d = p .d -ℤ q .d }
+
+-- The columns' values, rows as rows: the butterflies of `turned` with whole rows for numbers.
+abbrev pub columnsTurned : Tile → Tile
+columnsTurned t =
+    let s0 = rowsAdded (t .a) (t .b) in
+    let s1 = rowsAdded (t .c) (t .d) in
+    let d0 = rowsSubtracted (t .a) (t .b) in
+    let d1 = rowsSubtracted (t .c) (t .d) in
+    record { a = rowsAdded s0 s1; b = rowsSubtracted s0 s1; c = rowsAdded d0 d1; d = rowsSubtracted d0 d1 }
 
 -- a row's numbers by their absolute sizes
 abbrev pub rowPlain : Quad → ℕ

@@ -8,7 +8,8 @@ ghost use lib.ListN.{length};
 ghost use Rattle.whole.specs.Interval.{Within};
 ghost use Rattle.distance.specs.Distance.{Given, blockOf, gap, sad, satd, tileSum, costOf};
 ghost use Rattle.distance.specs.Hadamard.{plain};
-ghost use Rattle.distance.specs.Parts.{gaps, Small, SmallRows, turned, rowsTurned, flipped, rowPlain, entry, rowLess, tileLess, tilesLess};
+ghost use Rattle.distance.specs.Parts.{gaps, Small, SmallRows, turned, rowsTurned, rowsAdded, rowsSubtracted, rowPlain, entry, rowLess, tileLess, tilesLess};
+ghost use Rattle.distance.specs.Steps.{columnStep, tileOf, stepsOf};
 
 // The branch on bytes becomes one instruction for sixteen of them.
 fn apart(a: u8, b: u8) -> u32
@@ -51,18 +52,18 @@ fn sad_of(w: usize, h: usize, a: &[u8], ap: usize, b: &[u8], bp: usize) -> u32
 
 // Four numbers of a tile's row, and four rows. Every Hadamard value of bytes fits an i16, and eight
 // of these go into one register.
-struct Quad {
-    a: i16,
-    b: i16,
-    c: i16,
-    d: i16,
+pub struct Quad {
+    pub a: i16,
+    pub b: i16,
+    pub c: i16,
+    pub d: i16,
 }
 
-struct Tile {
-    a: Quad,
-    b: Quad,
-    c: Quad,
-    d: Quad,
+pub struct Tile {
+    pub a: Quad,
+    pub b: Quad,
+    pub c: Quad,
+    pub d: Quad,
 }
 
 fn less(a: u8, b: u8) -> i16
@@ -121,43 +122,49 @@ fn turn_rows(t: Tile) -> Tile
     }
 }
 
-// Rows become columns.
-fn across(t: Tile) -> Tile
-    ensures { λ r. ⌜ r ≡ flipped t ⌝ }
+fn add_rows(p: Quad, q: Quad) -> Quad
+    requires { ⌜ Small 1020 p × Small 1020 q ⌝ }
+    ensures { λ r. ⌜ r ≡ rowsAdded p q ⌝ }
 {
-    let p = t.a;
-    let q = t.b;
-    let r = t.c;
-    let s = t.d;
-    let a = Quad {
-        a: p.a,
-        b: q.a,
-        c: r.a,
-        d: s.a,
-    };
-    let b = Quad {
-        a: p.b,
-        b: q.b,
-        c: r.b,
-        d: s.b,
-    };
-    let c = Quad {
-        a: p.c,
-        b: q.c,
-        c: r.c,
-        d: s.c,
-    };
-    let d = Quad {
-        a: p.d,
-        b: q.d,
-        c: r.d,
-        d: s.d,
-    };
+    Quad {
+        a: p.a + q.a,
+        b: p.b + q.b,
+        c: p.c + q.c,
+        d: p.d + q.d,
+    }
+}
+
+fn subtract_rows(p: Quad, q: Quad) -> Quad
+    requires { ⌜ Small 1020 p × Small 1020 q ⌝ }
+    ensures { λ r. ⌜ r ≡ rowsSubtracted p q ⌝ }
+{
+    Quad {
+        a: p.a - q.a,
+        b: p.b - q.b,
+        c: p.c - q.c,
+        d: p.d - q.d,
+    }
+}
+
+// The tile after its column step, rows as rows: what the bench dumps. The butterflies are those of
+// `turn`, with whole rows for numbers, so that no column has to be picked out.
+fn column_step(t: Tile) -> Tile
+    requires { ⌜ SmallRows 255 t ⌝ }
+    ensures { λ r. ⌜ r ≡ tileOf (columnStep (entry t)) ⌝ }
+{
+    let a = t.a;
+    let b = t.b;
+    let c = t.c;
+    let d = t.d;
+    let s0 = add_rows(a, b);
+    let s1 = add_rows(c, d);
+    let d0 = subtract_rows(a, b);
+    let d1 = subtract_rows(c, d);
     Tile {
-        a: a,
-        b: b,
-        c: c,
-        d: d,
+        a: add_rows(s0, s1),
+        b: subtract_rows(s0, s1),
+        c: add_rows(d0, d1),
+        d: subtract_rows(d0, d1),
     }
 }
 
@@ -190,15 +197,33 @@ fn weight(t: Tile) -> u16
     row_weight(a) + row_weight(b) + row_weight(c) + row_weight(d)
 }
 
-// The sixteen absolute Hadamard values of a tile of differences: rows first, then columns. Before
-// the sum the tile is turned back, so that equal steps stand side by side.
+// A tile's steps: columns first, then rows. What is left are the Hadamard values.
+pub struct Steps {
+    pub columns: Tile,
+    pub values: Tile,
+    pub total: u16,
+}
+
+pub fn tile_steps(t: Tile) -> Steps
+    requires { ⌜ SmallRows 255 t ⌝ }
+    ensures { λ r. ⌜ r ≡ stepsOf (entry t) ⌝ }
+{
+    let columns = column_step(t);
+    let values = turn_rows(columns);
+    Steps {
+        columns: columns,
+        values: values,
+        total: weight(values),
+    }
+}
+
+// The sixteen absolute Hadamard values of a tile of differences.
 fn hadamard(t: Tile) -> u32
     requires { ⌜ SmallRows 255 t ⌝ }
     ensures { λ r. ⌜ r ≡ tileSum (entry t) ⌝ }
 {
-    let rows = turn_rows(t);
-    let columns = turn_rows(across(rows));
-    weight(across(columns)) as u32
+    let done = tile_steps(t);
+    done.total as u32
 }
 
 // The tile that starts at i in a and at k in b.
