@@ -1,0 +1,6 @@
+pub mod Input
+pub mod Parts
+pub mod Scanned
+pub mod Given
+pub mod Examples
+pub mod ReadBack
