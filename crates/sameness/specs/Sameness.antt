@@ -41,6 +41,7 @@ use Rattle.report_text.proofs.lay as lay
 use Rattle.report_text.proofs.put as put
 use Rattle.report_text.proofs.put_field as put-field
 use Rattle.report_text.proofs.put_two as put-two
+use Rattle.tile_lines.proofs.put_steps as put-steps
 use Rattle.plan_file.proofs.check_plan_file as check-plan-file
 use Rattle.plan_lines.proofs.report_head as report-head
 use Rattle.plan_lines.proofs.report_line as report-line
@@ -251,3 +252,6 @@ module _ {M : Type 1} (𝓤 : URA M) where
 
     pub put-two-same : Same put-two.ended (put-two.clauses 𝓤 H A mem run) (λ κs r e. r & take r (now (e .0)))
     put-two-same κs a g r s e f = puts-beside
+
+    pub put-steps-same : Same put-steps.ended (put-steps.clauses 𝓤 H A mem run) (λ κs r e. r & take r (now (e .0)))
+    put-steps-same κs a g r s e f = puts-beside
