@@ -17,7 +17,7 @@ enum Word {
 }
 
 // What stands at a place of the text: a number, a word that is none, or no word.
-enum Number {
+pub enum Number {
     Is(i16),
     Wrong,
     Missing,
