@@ -8,12 +8,14 @@ use native.Mathlib.Omega.{arith}
 use lib.IntN.{pos, _-ℤ_}
 use lib.ListN.{length, getD, take, drop, length-take, length-drop}
 use lib.Seq.{getD-take, getD-drop}
+use Rattle.whole.specs.Interval.{Within}
 use Rattle.distance.specs.declared.Quad.{Quad}
 use Rattle.distance.specs.Distance.{sum, gap, blockOf, tileSum, differ}
 use Rattle.distance.specs.Sums.{sum-eq, sum-below}
-use Rattle.distance.specs.Absolute.{abs-apart, byte-less}
+use Rattle.distance.specs.Absolute.{abs-small, byte-less}
 use Rattle.distance.specs.Hadamard.{tile-same, tile-most}
-use Rattle.distance.specs.Parts.{gaps, pick, entry, Small, rowLess, tileLess, tilesLess}
+use Rattle.distance.specs.Parts.{gaps, pick, entry, Small, SmallRows, rowLess, tileLess, tilesLess}
+use Rattle.distance.specs.Steps.{quadOf, tileOf}
 
 -- ---- a row above the last ends inside
 pub inside : (h p w n : ℕ) {y : ℕ} → (h - 1) * p + w ≤ n → y < h → y * p + w ≤ n
@@ -36,7 +38,7 @@ pub part-gaps : (s t : List ℕ) (i k w : ℕ) → i + w ≤ length s → gaps (
 part-gaps s t i k w l = rw (part-length s i w l) (sum-eq w (λ x m. rw (part-at s i w m, part-at t k w m)))
 
 -- ---- differences
-less-at : (s t : List ℕ) {i j k l : ℕ} → i ≡ j → k ≡ l → pos (getD s i 0) -ℤ pos (getD t k 0) ≡ pos (getD s j 0) -ℤ pos (getD t l 0)
+pub less-at : (s t : List ℕ) {i j k l : ℕ} → i ≡ j → k ≡ l → pos (getD s i 0) -ℤ pos (getD t k 0) ≡ pos (getD s j 0) -ℤ pos (getD t l 0)
 less-at s t e f = rw (e, f)
 
 row-at : (s t : List ℕ) (i k x : ℕ) → x < 4 → pick (rowLess s i t k) x ≡ pos (getD s (i + x) 0) -ℤ pos (getD t (k + x) 0)
@@ -60,6 +62,13 @@ rows-tile s t i p k q {a} {b} {c} {d} ea eb ec ed = tile-same (entry (record { a
     go (suc (suc (suc zero))) x l m = row (i + p + p + p) (k + q + q + q) 3 x ed m (omega arith) (omega arith)
     go (suc (suc (suc (suc y)))) x l m = absurd (omega arith)
 
+-- a row of one tile
+pub tile-alone : (s t : List ℕ) (i p k q : ℕ) {r : ℕ} → r ≡ tileSum (tileLess s i p t k q) → r ≡ tilesLess 1 s i p t k q
+unfolding sum
+tile-alone s t i p k q e =
+    let same = tile-same (tileLess s i p t k q) (tileLess s (i + 4 * 0) p t (k + 4 * 0) q) (λ y x l m. less-at s t (omega arith) (omega arith)) in
+    omega arith
+
 -- a row of tiles of two slices is one of their two blocks
 place : (i j p y x : ℕ) → i * p + j + y * p + x ≡ (i + y) * p + (j + x)
 place i j p y x = omega (arith, add-mul i y p)
@@ -78,9 +87,21 @@ module _ (s t : List ℕ) (f : (j : ℕ) → getD s j 0 < 256) (g : (j : ℕ) �
       rw e
       (record { at-a = byte-less _ _ (f i) (g k); at-b = byte-less _ _ (f (i + 1)) (g (k + 1)); at-c = byte-less _ _ (f (i + 2)) (g (k + 2)); at-d = byte-less _ _ (f (i + 3)) (g (k + 3)) })
 
+  bytes-less : (i p k q y x : ℕ) → Within 255 255 (tileLess s i p t k q y x)
+  bytes-less i p k q y x = byte-less (getD s (i + y * p + x) 0) (getD t (k + y * q + x) 0) (f (i + y * p + x)) (g (k + y * q + x))
+
+  pub bytes-column : (i p k q x : ℕ) → Small 255 (quadOf (λ y. tileLess s i p t k q y x))
+  bytes-column i p k q x =
+      let at = bytes-less i p k q in record { at-a = at 0 x; at-b = at 1 x; at-c = at 2 x; at-d = at 3 x }
+
+  pub bytes-rows : (i p k q : ℕ) → SmallRows 255 (tileOf (tileLess s i p t k q))
+  bytes-rows i p k q =
+      let at = bytes-less i p k q in
+      let row : (y : ℕ) → Small 255 (quadOf (tileLess s i p t k q y)) = λ y. record { at-a = at y 0; at-b = at y 1; at-c = at y 2; at-d = at y 3 } in
+      record { in-a = row 0; in-b = row 1; in-c = row 2; in-d = row 3 }
+
   pub bytes-tile : (i p k q : ℕ) → tileSum (tileLess s i p t k q) ≤ 16320
-  bytes-tile i p k q =
-      tile-most (tileLess s i p t k q) (λ y x. omega (arith, abs-apart (getD s (i + y * p + x) 0) (getD t (k + y * q + x) 0), f (i + y * p + x), g (k + y * q + x)))
+  bytes-tile i p k q = tile-most (tileLess s i p t k q) (λ y x. abs-small (bytes-less i p k q y x))
 
   pub bytes-tiles : (m i p k q : ℕ) → tilesLess m s i p t k q ≤ 16320 * m
   bytes-tiles m i p k q = sum-below m 16320 (λ j l. bytes-tile (i + 4 * j) p (k + 4 * j) q)

@@ -14,6 +14,7 @@ use Rattle.distance.specs.declared.Steps.{Steps}
 use Rattle.distance.specs.Distance.{sum, hadamardAt, tileSum}
 use Rattle.distance.specs.Hadamard.{plain}
 use Rattle.distance.specs.Absolute.{abs-small}
+use Rattle.distance.specs.Butterflies.{column-step, row-step}
 use Rattle.distance.specs.Steps.{columnStep, tileOf, stepsOf}
 use Rattle.distance.specs.Parts.{entry, Small, SmallRows, turned, rowsTurned, rowsAdded, rowsSubtracted, columnsTurned, rowPlain}
 
@@ -29,10 +30,16 @@ added-alike e f g = rw (e, f, g)
 pub subtracted-alike : {r p q p′ q′ : Quad} → r ≡ rowsSubtracted p q → p ≡ p′ → q ≡ q′ → r ≡ rowsSubtracted p′ q′
 subtracted-alike e f g = rw (e, f, g)
 
--- the two tiles, and the sum of the second one's absolute values, are a tile's steps
-pub steps-alike : {columns values : Tile} {total : ℕ} (d : ℕ → ℕ → ℤ) → columns ≡ tileOf (columnStep d) → values ≡ tileOf (hadamardAt d) → total ≡ plain (entry values) → _≡_ {A = Steps} (record { columns = columns; values = values; total = total }) (stepsOf d)
+-- The steps of a tile of differences d: what the rows leave of the column step's tile are the Hadamard values, and their absolute sum is the tile's.
+pub values-are : {columns values : Tile} (d : ℕ → ℕ → ℤ) → columns ≡ tileOf (columnStep d) → values ≡ rowsTurned columns → values ≡ tileOf (hadamardAt d)
+values-are d e f = f ∙ rw e (row-step d)
+
+pub total-is : {values : Tile} {total : ℕ} (d : ℕ → ℕ → ℤ) → values ≡ tileOf (hadamardAt d) → total ≡ plain (entry values) → total ≡ tileSum d
 unfolding tileSum sum
-steps-alike d e f g = rw (e, g, f)
+total-is d e f = rw (f, e)
+
+pub steps-alike : {columns values : Tile} {total : ℕ} (d : ℕ → ℕ → ℤ) → columns ≡ tileOf (columnStep d) → values ≡ tileOf (hadamardAt d) → total ≡ tileSum d → _≡_ {A = Steps} (record { columns = columns; values = values; total = total }) (stepsOf d)
+steps-alike d e f g = rw (e, f, g)
 
 -- ---- ranges
 pub small-turned : {n : ℕ} {q : Quad} → Small n q → Small ((n + n) + (n + n)) (turned q)
@@ -61,6 +68,10 @@ columns-turned s =
     let d0 = small-subtracted (s .in-a) (s .in-b) in
     let d1 = small-subtracted (s .in-c) (s .in-d) in
     record { in-a = small-added s0 s1; in-b = small-subtracted s0 s1; in-c = small-added d0 d1; in-d = small-subtracted d0 d1 }
+
+-- of differences of bytes the column step's numbers are at most 1,020
+pub columns-small : {columns : Tile} (d : ℕ → ℕ → ℤ) → columns ≡ tileOf (columnStep d) → SmallRows 255 (tileOf d) → SmallRows 1020 columns
+columns-small d e s = rw (e, ← column-step d) (columns-turned s)
 
 -- within wider bounds too
 pub small-more : {n m : ℕ} {q : Quad} → Small n q → T (leb n m) → Small m q

@@ -81,9 +81,17 @@ tile-at d (suc (suc zero)) x l m = quad-at (d 2) x m
 tile-at d (suc (suc (suc zero))) x l m = quad-at (d 3) x m
 tile-at d (suc (suc (suc (suc y)))) x l m = absurd (omega arith)
 
+pub tiles-agree : (d e : ℕ → ℕ → ℤ) → ((y x : ℕ) → y < 4 → x < 4 → d y x ≡ e y x) → tileOf d ≡ tileOf e
+tiles-agree d e h = tile-is (tileOf d) e (λ y x l m. tile-at d y x l m ∙ h y x l m)
+
 -- ---- both steps
-pub column-step : (t : Tile) → columnsTurned t ≡ tileOf (columnStep (entry t))
-column-step t = tile-is (columnsTurned t) (columnStep (entry t)) (λ i x l m. columns-at t i x l)
+pub column-step : (d : ℕ → ℕ → ℤ) → columnsTurned (tileOf d) ≡ tileOf (columnStep d)
+column-step d =
+    tile-is (columnsTurned (tileOf d)) (columnStep d) (λ i x l m. columns-at (tileOf d) i x l ∙ along-same i (λ y n. tile-at d y x n m))
+
+-- The same of one column alone, which is turned as a row is.
+pub column-turned : (d : ℕ → ℕ → ℤ) (i x : ℕ) → i < 4 → pick (turned (quadOf (λ y. d y x))) i ≡ columnStep d i x
+column-turned d i x l = turned-at (quadOf (λ y. d y x)) i l ∙ along-same i (λ y n. quad-at (λ y. d y x) y n)
 
 -- The row step, after the column step, leaves the Hadamard values.
 pub steps-value : (d : ℕ → ℕ → ℤ) (i j : ℕ) → rowStep (columnStep d) i j ≡ hadamardAt d i j

@@ -1,13 +1,15 @@
 -- What the parts of the code answer (01, "Evaluating and choosing": SAD and SATD), in the terms of Distance: the gaps of two rows, and a tile as four rows of
 -- four numbers, which is turned by butterflies. That this gives the Hadamard values is in Butterflies.
 use mathlib.Core.List.{List}
-use Prim.Native.Nat.{ℕ, zero, suc, _+_, _*_}
+use mathlib.Core.Path.{_≡_}
+use Prim.Native.Nat.{ℕ, zero, suc, _+_, _*_, _<_}
 use lib.IntN.{ℤ, pos, _+ℤ_, _-ℤ_, natAbs}
-use lib.ListN.{getD}
+use lib.ListN.{getD, length}
 use Rattle.whole.specs.Interval.{Within}
 use Rattle.distance.specs.declared.Quad.{Quad}
 use Rattle.distance.specs.declared.Tile.{Tile}
 use Rattle.distance.specs.Distance.{sum, gap, tileSum}
+use Rattle.distance.specs.Steps.{columnStep, tileOf}
 
 -- the first n samples of two rows, their gaps summed
 abbrev pub gaps : ℕ → List ℕ → List ℕ → ℕ
@@ -90,3 +92,12 @@ tileLess s i p t k q y x = pos (getD s (i + y * p + x) 0) -ℤ pos (getD t (k + 
 
 abbrev pub tilesLess : ℕ → List ℕ → ℕ → ℕ → List ℕ → ℕ → ℕ → ℕ
 tilesLess m s i p t k q = sum m (λ j. tileSum (tileLess s (i + 4 * j) p t (k + 4 * j) q))
+
+-- ---- the column step of n columns side by side: rows as rows, sixteen numbers apart
+pub record Stepped (n : ℕ) (s : List ℕ) (i p : ℕ) (t : List ℕ) (k q : ℕ) (c : List ℤ) : Type 0 where
+  pub room : length c ≡ 64
+  pub value : (r x : ℕ) → r < 4 → x < n → getD c (16 * r + x) (pos 0) ≡ columnStep (tileLess s i p t k q) r x
+
+-- the tile of them that starts at column x
+abbrev pub tileIn : List ℤ → ℕ → Tile
+tileIn c x = tileOf (λ y j. getD c (16 * y + x + j) (pos 0))

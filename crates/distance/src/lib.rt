@@ -8,7 +8,7 @@ ghost use lib.ListN.{length};
 ghost use Rattle.whole.specs.Interval.{Within};
 ghost use Rattle.distance.specs.Distance.{Given, blockOf, gap, sad, satd, tileSum, costOf};
 ghost use Rattle.distance.specs.Hadamard.{plain};
-ghost use Rattle.distance.specs.Parts.{gaps, Small, SmallRows, turned, rowsTurned, rowsAdded, rowsSubtracted, rowPlain, entry, rowLess, tileLess, tilesLess};
+ghost use Rattle.distance.specs.Parts.{gaps, Small, SmallRows, turned, rowsTurned, rowsAdded, rowsSubtracted, rowPlain, entry, rowLess, tileLess, tilesLess, Stepped, tileIn};
 ghost use Rattle.distance.specs.Steps.{columnStep, tileOf, stepsOf};
 
 // The branch on bytes becomes one instruction for sixteen of them.
@@ -249,14 +249,92 @@ fn tile_at(a: &[u8], i: usize, ap: usize, b: &[u8], k: usize, bp: usize) -> u32
     })
 }
 
-// A row of m tiles.
+// The column step of n columns side by side, rows as rows: value (r, x) stands at 16 r + x. The loop
+// writes next to what it wrote before, so that eight columns or more are done at a time.
+fn column_steps(a: &[u8], i: usize, ap: usize, b: &[u8], k: usize, bp: usize, n: usize) -> [i16; 64]
+    requires { ⌜ (n ≤ 16) × ((i + 3 * ap + n ≤ length (now a)) × (k + 3 * bp + n ≤ length (now b))) ⌝ }
+    ensures { λ r. ⌜ Stepped n (now (a .entry)) i ap (now (b .entry)) k bp r ⌝ }
+{
+    let mut out = [0i16; 64];
+    let i1 = i + ap;
+    let i2 = i1 + ap;
+    let i3 = i2 + ap;
+    let k1 = k + bp;
+    let k2 = k1 + bp;
+    let k3 = k2 + bp;
+    for x in 0..n {
+        let p = less(a[i + x], b[k + x]);
+        let q = less(a[i1 + x], b[k1 + x]);
+        let r = less(a[i2 + x], b[k2 + x]);
+        let s = less(a[i3 + x], b[k3 + x]);
+        let column = turn(Quad {
+            a: p,
+            b: q,
+            c: r,
+            d: s,
+        });
+        let v0 = column.a;
+        let v1 = column.b;
+        let v2 = column.c;
+        let v3 = column.d;
+        out[x] = v0;
+        out[16 + x] = v1;
+        out[32 + x] = v2;
+        out[48 + x] = v3;
+    }
+    out
+}
+
+// The tile after its column step that starts at column x.
+fn tile_in(c: &[i16; 64], x: usize) -> Tile
+    requires { ⌜ x + 4 ≤ 16 ⌝ }
+    ensures { λ r. ⌜ r ≡ tileIn (now (c .entry)) x ⌝ }
+{
+    let p = Quad {
+        a: c[x],
+        b: c[x + 1],
+        c: c[x + 2],
+        d: c[x + 3],
+    };
+    let q = Quad {
+        a: c[16 + x],
+        b: c[17 + x],
+        c: c[18 + x],
+        d: c[19 + x],
+    };
+    let r = Quad {
+        a: c[32 + x],
+        b: c[33 + x],
+        c: c[34 + x],
+        d: c[35 + x],
+    };
+    let s = Quad {
+        a: c[48 + x],
+        b: c[49 + x],
+        c: c[50 + x],
+        d: c[51 + x],
+    };
+    Tile {
+        a: p,
+        b: q,
+        c: r,
+        d: s,
+    }
+}
+
+// A row of m tiles. One alone is done as a tile; of more the column step is done side by side.
 fn tiles_at(a: &[u8], i: usize, ap: usize, b: &[u8], k: usize, bp: usize, m: usize) -> u32
     requires { ⌜ (m ≤ 4) × ((i + 3 * ap + 4 * m ≤ length (now a)) × (k + 3 * bp + 4 * m ≤ length (now b))) ⌝ }
     ensures { λ r. ⌜ r ≡ tilesLess m (now (a .entry)) i ap (now (b .entry)) k bp ⌝ }
 {
+    if m == 1 {
+        return tile_at(a, i, ap, b, k, bp);
+    }
+    let columns = column_steps(a, i, ap, b, k, bp, 4 * m);
     let mut total: u32 = 0;
     for j in 0..m {
-        total += tile_at(a, i + 4 * j, ap, b, k + 4 * j, bp);
+        let stepped = tile_in(&columns, 4 * j);
+        total += weight(turn_rows(stepped)) as u32;
     }
     total
 }

@@ -2,7 +2,7 @@
 use borrow.Author.Needs.{needs}
 use mathlib.Core.Path.{_∙_}
 use Rattle.distance.specs.Butterflies.{column-step}
-use Rattle.distance.specs.Parts.{Small}
+use Rattle.distance.specs.Parts.{entry, Small}
 use Rattle.distance.proofs.Tiles.{tiles-alike, added-alike, subtracted-alike, small-added, small-subtracted, small-more}
 use Rattle.distance.proofs.column_step.Statement.{statement}
 use Rattle.distance.proofs.column_step.Tie as tie
@@ -35,7 +35,7 @@ returns c =
     (subtracted-alike (c .before .before .subtract-rows3 .ensures) s0 s1)
     (added-alike (c .before .add-rows4 .ensures) d0 d1)
     (subtracted-alike (c .subtract-rows4 .ensures) d0 d1)
-    ∙ column-step (start first .args .t)
+    ∙ column-step (entry (start first .args .t))
 
 pub column-step-spec : {M : Type 1} → statement M
 column-step-spec =
