@@ -256,17 +256,17 @@ fn column_steps(a: &[u8], i: usize, ap: usize, b: &[u8], k: usize, bp: usize, n:
     ensures { λ r. ⌜ Stepped n (now (a .entry)) i ap (now (b .entry)) k bp r ⌝ }
 {
     let mut out = [0i16; 64];
-    let i1 = i + ap;
-    let i2 = i1 + ap;
-    let i3 = i2 + ap;
-    let k1 = k + bp;
-    let k2 = k1 + bp;
-    let k3 = k2 + bp;
+    let a1 = i + ap;
+    let a2 = a1 + ap;
+    let a3 = a2 + ap;
+    let b1 = k + bp;
+    let b2 = b1 + bp;
+    let b3 = b2 + bp;
     for x in 0..n {
         let p = less(a[i + x], b[k + x]);
-        let q = less(a[i1 + x], b[k1 + x]);
-        let r = less(a[i2 + x], b[k2 + x]);
-        let s = less(a[i3 + x], b[k3 + x]);
+        let q = less(a[a1 + x], b[b1 + x]);
+        let r = less(a[a2 + x], b[b2 + x]);
+        let s = less(a[a3 + x], b[b3 + x]);
         let column = turn(Quad {
             a: p,
             b: q,

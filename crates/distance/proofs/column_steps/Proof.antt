@@ -16,10 +16,10 @@ use Rattle.distance.proofs.column_steps.Statement.{statement}
 use Rattle.distance.proofs.column_steps.Tie as tie
 
 abbrev Inv-loop : tie.InvT-loop
-Inv-loop a i ap b k bp n out₀ i1 i2 i3 k1 k2 k3 x₀ out x = (x ≤ n) × Stepped x a i ap b k bp out
+Inv-loop a i ap b k bp n out₀ a1 a2 a3 b1 b2 b3 x₀ out x = (x ≤ n) × Stepped x a i ap b k bp out
 
 abbrev μ-loop : tie.MeasureT-loop
-μ-loop a i ap b k bp n out₀ i1 i2 i3 k1 k2 k3 x₀ out x = n - x
+μ-loop a i ap b k bp n out₀ a1 a2 a3 b1 b2 b3 x₀ out x = n - x
 
 loop-holds : tie.Need-loop-holds Inv-loop μ-loop
 loop-holds c = (omega arith, record { room = refl; value = λ r x l m. absurd (omega arith) })
