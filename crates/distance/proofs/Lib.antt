@@ -1,3 +1,3 @@
 pub mod Tiles
 pub mod Rows
-pub mod Side
+pub mod SideBySide

@@ -217,7 +217,7 @@ pub fn tile_steps(t: Tile) -> Steps
     }
 }
 
-// The sixteen absolute Hadamard values of a tile of differences.
+// The sum of the sixteen absolute Hadamard values, for a tile alone.
 fn hadamard(t: Tile) -> u32
     requires { ⌜ SmallRows 255 t ⌝ }
     ensures { λ r. ⌜ r ≡ tileSum (entry t) ⌝ }
@@ -249,8 +249,8 @@ fn tile_at(a: &[u8], i: usize, ap: usize, b: &[u8], k: usize, bp: usize) -> u32
     })
 }
 
-// The column step of n columns side by side, rows as rows: value (r, x) stands at 16 r + x. The loop
-// writes next to what it wrote before, so that eight columns or more are done at a time.
+// The column step of n columns side by side, rows as rows: value (r, x) stands at 16 r + x. In each
+// row a turn writes next to the turn before it, so that the compiler can do several at a time.
 fn column_steps(a: &[u8], i: usize, ap: usize, b: &[u8], k: usize, bp: usize, n: usize) -> [i16; 64]
     requires { ⌜ (n ≤ 16) × ((i + 3 * ap + n ≤ length (now a)) × (k + 3 * bp + n ≤ length (now b))) ⌝ }
     ensures { λ r. ⌜ Stepped n (now (a .entry)) i ap (now (b .entry)) k bp r ⌝ }

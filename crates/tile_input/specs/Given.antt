@@ -21,7 +21,7 @@ use Rattle.tile_input.specs.Input.{allDigits, signedBy, limited, numeral
 use Rattle.tile_input.specs.Input.{rowFrom, tileFrom, closing, going, readFrom, readingOf}
 
 -- where two answers that differ were equal anything would hold
-unlike : {A : Type 0} → _≡_ {A = ℕ} 0 1 → A
+pub unlike : {A : Type 0} → _≡_ {A = ℕ} 0 1 → A
 unlike e = absurd (omega arith)
 
 -- ---- a word's number

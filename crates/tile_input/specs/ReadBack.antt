@@ -15,11 +15,8 @@ use Rattle.whole.specs.Interval.{Within}
 use Rattle.report_text.specs.Text.{digit, digits, decimal}
 use Rattle.report_text.specs.Digits.{readOn, tenth, digits-small, digits-more, digits-read}
 use Rattle.tile_input.specs.declared.Number.the-variants as number
+use Rattle.tile_input.specs.Given.{unlike}
 use Rattle.tile_input.specs.Input.{isBlank, isDigit, allDigits, signedBy, numeral, numberOf, ended, wordsFrom}
-
--- true and false are not alike
-unlike : {A : Type 0} → _≡_ {A = ℕ} 0 1 → A
-unlike e = absurd (omega arith)
 
 -- ---- numbers
 -- one digit, or more

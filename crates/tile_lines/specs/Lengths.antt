@@ -1,4 +1,4 @@
--- How long the text of a number and of a row is. Assumes nothing.
+-- How long the text of a number of 16 bits is, by itself and in its columns. Assumes nothing.
 use mathlib.Core.Path.{_≡_}
 use Prim.Native.Nat.{ℕ, suc, _+_, _-_, _≤_}
 use native.Mathlib.Omega.{arith}

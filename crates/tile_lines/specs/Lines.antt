@@ -11,7 +11,7 @@ use Rattle.distance.specs.Parts.{entry}
 use Rattle.distance.specs.Steps.{stepsOf}
 use Rattle.report_text.specs.Text.{codes, decimal}
 
--- a number to the right of seven columns
+-- a number at the right end of seven columns
 abbrev pub entryText : ℤ → List ℕ
 entryText z = take (7 - length (decimal z)) (codes "       ") ++ decimal z
 

@@ -9,7 +9,7 @@ ghost use Rattle.distance.specs.Parts.{SmallRows};
 ghost use Rattle.report_text.specs.Putting.{Puts};
 ghost use Rattle.tile_lines.specs.Lines.{entryText, rowText, tileText, stepsText};
 
-// To the right of seven columns. No i16 takes more than six, so that a blank stands before each.
+// At the right end of seven columns. No i16 takes more than six, so that a blank stands before each.
 fn put_entry(line: &mut [u8], at: usize, number: i16) -> usize
     requires { ⌜ at + 7 ≤ length (now line) ⌝ }
     ensures { λ r. ⌜ Puts (now (line .entry)) at (entryText number) (now (line .exit)) r ⌝ }

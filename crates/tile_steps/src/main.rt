@@ -25,7 +25,7 @@ fn refuse_end(place: usize) {
 }
 
 fn refuse_more() {
-    io::write_all(2, b"refused: more than 16 numbers\n");
+    io::write_all(2, b"refused: more than 16 words\n");
 }
 
 fn answer(text: &[u8]) {

@@ -11,7 +11,7 @@ use Rattle.distance.specs.Steps.{quadOf}
 use Rattle.distance.specs.Parts.{Small, turned, tileLess, Stepped}
 use Rattle.distance.proofs.Tiles.{small-more}
 use Rattle.distance.proofs.Rows.{bytes-column}
-use Rattle.distance.proofs.Side.{column-less, next-column}
+use Rattle.distance.proofs.SideBySide.{column-less, next-column}
 use Rattle.distance.proofs.column_steps.Statement.{statement}
 use Rattle.distance.proofs.column_steps.Tie as tie
 

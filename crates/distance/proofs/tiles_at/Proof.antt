@@ -10,7 +10,7 @@ use Rattle.distance.specs.Parts.{SmallRows, tileLess, tilesLess}
 use Rattle.distance.specs.Steps.{columnStep, tileOf}
 use Rattle.distance.proofs.Tiles.{values-are, total-is, columns-small, rows-turned}
 use Rattle.distance.proofs.Rows.{tile-alone, bytes-rows, bytes-tile}
-use Rattle.distance.proofs.Side.{tile-stepped}
+use Rattle.distance.proofs.SideBySide.{tile-stepped}
 use Rattle.distance.proofs.tiles_at.Statement.{statement}
 use Rattle.distance.proofs.tiles_at.Tie as tie
 
