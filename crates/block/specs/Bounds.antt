@@ -1,14 +1,14 @@
 -- How large the numbers of a block's plan grow. Assumes nothing.
 use mathlib.Core.Path.{_≡_, refl}
 use mathlib.Core.Bool.{Bool, true, false, cond}
-use Prim.Native.Nat.{ℕ, _≤_}
+use Prim.Native.Nat.{_≤_}
 use native.Mathlib.Omega.{arith}
 use lib.IntN.{ℤ, pos, _-ℤ_}
 use lib.Signed.{ltZ}
 use Rattle.whole.specs.Numbers.{lesserOf, greaterOf}
 use Rattle.whole.specs.Signed.{P, N, signed}
-use Rattle.whole.specs.Interval.{Within, within-more, within-either, within-shr, within-sub}
-use Rattle.limits.specs.Limits.{shiftedBy}
+use Rattle.whole.specs.Interval.{Within, within-more, within-either, within-sub}
+use Rattle.limits.specs.Ranges.{within-shifted}
 use Rattle.axis.specs.declared.Axis.{Axis}
 use Rattle.axis.specs.Axis.{excessOf, placeOf}
 use Rattle.axis.specs.Bounds.{Bounded}
@@ -16,9 +16,6 @@ use Rattle.planes.specs.declared.Sides.{Sides}
 use Rattle.block.specs.declared.Shape.{Shape}
 use Rattle.block.specs.Shapes.{chromaPlace, spotOf}
 use Rattle.block.specs.Asked.{Held}
-
-pub within-shifted : {l h : ℕ} {z : ℤ} (s : ℤ) → Within l h z → Within l h (shiftedBy z s)
-within-shifted s p = within-either (ltZ s (pos 1)) p (within-shr 2 p)
 
 -- a place is clamped between 0 and what the frame leaves
 module _ {a : Axis} (b : Bounded a) where

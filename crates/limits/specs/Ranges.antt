@@ -3,7 +3,7 @@ use mathlib.Core.Path.{_≡_}
 use mathlib.Core.Bool.{Bool, true, false, cond, _&&_, _||_}
 use mathlib.Core.Logic.{_⊎_, inl, inr, ⊎-elim}
 use native.Mathlib.Omega.{arith}
-use Prim.Native.Nat.{zero, suc}
+use Prim.Native.Nat.{ℕ, zero, suc}
 use lib.Dec.{lit<}
 use lib.IntN.{ℤ, pos, negsuc}
 use lib.Signed.{ltZ, shrZ, _≤ℤ_}
@@ -11,7 +11,7 @@ use Rattle.whole.specs.Numbers.{liesIn}
 use Rattle.whole.specs.Signed.{signed, abs-is}
 use Rattle.whole.specs.Truth.{left-of, right-of, either-of, lies-low, lies-high}
 use Rattle.whole.specs.Floor.{floor-low, floor-high}
-use Rattle.whole.specs.Interval.{Within}
+use Rattle.whole.specs.Interval.{Within, within-shr, within-either}
 use Rattle.limits.specs.Limits.{same, isBlock, isPel, areShifts, shiftedBy, radiusOf}
 
 -- a number from least to greatest, as an order on whole numbers
@@ -83,6 +83,10 @@ block-within width height e =
     (λ a. (is-8 (left-of w8 h8 a), is-8 (right-of w8 h8 a)))
     (λ a. (is-16 (left-of w16 (h8 || h16) a), ⊎-elim (λ b. is-8 b) (λ b. is-16 b) (either-of h8 h16 (right-of w16 (h8 || h16) a))))
     (either-of (w8 && h8) (w16 && (h8 || h16)) e)
+
+-- a number shifted lies where it lay
+pub within-shifted : {l h : ℕ} {z : ℤ} (s : ℤ) → Within l h z → Within l h (shiftedBy z s)
+within-shifted s p = within-either (ltZ s (pos 1)) p (within-shr 2 p)
 
 -- a frame's side, shifted, is still a side
 pub shifted-least : (z s : ℤ) → pos 2 ≤ℤ z → z ≤ℤ pos 16384 → (pos 1 ≤ℤ shiftedBy z s) × (shiftedBy z s ≤ℤ pos 16384)

@@ -7,8 +7,8 @@ use mir.Syntax.{w32}
 use mir.Val.{toZ, ofZ}
 use Rattle.whole.specs.Interval.{Is, is-within, is-call, ask-sub, is-sub, within-sub}
 use Rattle.limits.specs.Limits.{shiftedBy}
+use Rattle.limits.specs.Ranges.{within-shifted}
 use Rattle.block.specs.Shapes.{chromaPlace}
-use Rattle.block.specs.Bounds.{within-shifted}
 use Rattle.block.proofs.chroma_place.Statement.{statement}
 use Rattle.block.proofs.chroma_place.Tie as tie
 
