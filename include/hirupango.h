@@ -68,6 +68,38 @@ struct hirupango_place {
     int32_t pitch, width, height, pel;
 };
 
+/* A frame of the pyramid, in raw planes: luma, U and V, each bytes and a pitch. The levels of a raw plane are packed one below the other, each as so many
+ * rows of pitch bytes: level 0 first, with its pel x pel subplanes, then level 1 and so on. Where level 0 is kept apart, in
+ * three raw planes of its own, separate is true, and the packed planes begin with level 1. Handed over by value. */
+struct hirupango_super_frame {
+    struct hirupango_sides frame, shift; /* level 0's width and height; how far chroma's sides are luma's shifted right */
+    int32_t pel, level;
+    struct {
+        int32_t luma, u, v;
+    } pitch;
+    bool separate;
+    struct {
+        int32_t luma, u, v;
+    } source_pitch; /* of the separate source; not looked at where there is none */
+};
+
+/* Where a level's three planes lie. luma, u and v are the packed planes' bytes, the three behind them the separate source's;
+ * only their lengths are looked at. On 0 the first 15 numbers of planes are base, pitch, width, height and pel of luma, of U and of V, and
+ * the others stay. A host that cut its levels by hand copies them into the struct hirupango_place of its settings or
+ * request, and hands the same bytes to hirupango_plan and hirupango_evaluate: the source's at level 0 where separate is
+ * true, else the packed ones. They are not refused with 3 there, nor with 2 for a plane's numbers. Each level halves a side
+ * to an even number, 2 x (side / 4): 1080, 540, 270, 134. Level 0 has the frame's pel, every other one pel 1.
+ *   2  a side of the frame not from 2 to 16,384, a pel other than 1, 2 or 4, shifts other than (0,0), (1,0) or (1,1), or a
+ *      pitch not from the width of the widest level in its plane to 65,536
+ *   9  a level not from 0 to 15, or a side that comes to 0
+ *   3  a plane that the level is cut from of over 1,073,741,823 bytes, or of fewer than base + (height - 1) x pitch + width
+ *   5  planes_len is under 15
+ * They are asked in this order. */
+uint32_t hirupango_level(struct hirupango_super_frame frame, const uint8_t *luma, size_t luma_len, const uint8_t *u, size_t u_len,
+                         const uint8_t *v, size_t v_len, const uint8_t *source_luma, size_t source_luma_len,
+                         const uint8_t *source_u, size_t source_u_len, const uint8_t *source_v, size_t source_v_len,
+                         int32_t *planes, size_t planes_len);
+
 /* What planning is asked for. Handed over by value. */
 struct hirupango_settings {
     struct {

@@ -1,12 +1,15 @@
 // What a host in C calls: thin functions over the proved entries. include/hirupango.h declares them.
 use block::Settings;
 use evaluation::Request;
+use level_places::SuperFrame;
 use planning::Planned;
 ghost use mathlib.Core.Path.{_≡_};
 ghost use lib.ListN.{length};
 ghost use Rattle.score.specs.Score.{scoreAnswer};
 ghost use Rattle.score.specs.Diagonal.{diagonalAnswer};
 ghost use Rattle.serpentine.specs.Answers.{orderRefusal, orderAfter};
+ghost use Rattle.levels.specs.Refusals.{levelAnswer};
+ghost use Rattle.levels.specs.Numbers.{givenNumber, givenNumbers};
 ghost use Rattle.planning.specs.Planned.{planNumber, planAnswer, planRecords, planIndices};
 ghost use Rattle.evaluation.specs.Evaluated.{evaluateAnswer, evaluateBests};
 ghost use Rattle.finishing.specs.Finish.{finishAnswer, finishVectors, finishOutput};
@@ -61,6 +64,24 @@ pub extern "C" fn hirupango_block_cost(
     ensures bytes { λ _. ⌜ now (out .exit) ≡ costBytes measure width height (now (a .entry)) «a_pitch» (now (b .entry)) «b_pitch» (now (out .entry)) ⌝ }
 {
     answer_bytes::block_cost(measure, width, height, a, a_pitch, b, b_pitch, out)
+}
+
+// ---- a level
+#[no_mangle]
+pub extern "C" fn hirupango_level(
+    frame: SuperFrame,
+    luma: &[u8],
+    u: &[u8],
+    v: &[u8],
+    source_luma: &[u8],
+    source_u: &[u8],
+    source_v: &[u8],
+    planes: &mut [i32],
+) -> u32
+    ensures number { λ r. ⌜ r ≡ givenNumber (levelAnswer frame (length (now (luma .entry))) (length (now (u .entry))) (length (now (v .entry))) (length (now («source_luma» .entry))) (length (now («source_u» .entry))) (length (now («source_v» .entry)))) (length (now (planes .entry))) ⌝ }
+    ensures placed { λ _. ⌜ now (planes .exit) ≡ givenNumbers (levelAnswer frame (length (now (luma .entry))) (length (now (u .entry))) (length (now (v .entry))) (length (now («source_luma» .entry))) (length (now («source_u» .entry))) (length (now («source_v» .entry)))) (now (planes .entry)) ⌝ }
+{
+    levels::level_numbers(frame, luma, u, v, source_luma, source_u, source_v, planes)
 }
 
 // ---- the pass

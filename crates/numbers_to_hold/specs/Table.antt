@@ -28,6 +28,8 @@ use Rattle.block.specs.Steps.{filledWith, settledAt, quietRecord, badRecord, ba
 use Rattle.limits.specs.Refusals.{anyUpto}
 use Rattle.passes.specs.Fold.{blockAt, turnAt, slotsAt, allFit}
 use Rattle.planes.specs.Planes.{chromaHolds, planesHold, holds3}
+use Rattle.level_places.specs.Levels as places
+use Rattle.levels.specs.Refusals as levels
 use Rattle.planning.specs.Refusals as planning
 use Rattle.records.specs.Unpacking.{recordOf}
 use Rattle.window.specs.Windows.{isWide}
@@ -43,6 +45,7 @@ use Rattle.answer_bytes.specs.BlockCost.{costNumber}
 use Rattle.answer_bytes.specs.Slots.{slotsAnswer}
 use Rattle.numbers_to_hold.specs.Rows.{Row, is, Every, every-of}
 use Rattle.numbers_to_hold.specs.Refusals.{refusals}
+use Rattle.numbers_to_hold.specs.Levels.{ofLevels}
 
 -- ---- answers as numbers: 01's number, and the values where it is 0
 abbrev pairAnswer : PackedPair → List ℤ
@@ -138,13 +141,14 @@ numbersToHold =
     ∷ is (subpelOf small (negsuc 0) (pos 0) ∷ []) (pos 31 ∷ [])
     ∷ []
 
--- ---- the theorem, of these and of the refusals that the paper states as numbers
-pub all-hold : Every (numbersToHold ++ refusals)
-unfolding numbersToHold refusals packedPair packedRecord recordFits recordWords numbers walk each row sum sumZ hadamardAt tileSum diagonalAnswer diagonalOf
-    rootOf scoreAnswer packedScore excessOf placeOf windowOf subpelOf planning.refusalOf planning.holds1 planning.holds2 holds3 planning.axisHolds
-    chromaHolds planesHold planning.vectorFits planning.entryHolds allFit turnAt blockAt slotsAt stepOf stepWith quietStep quietRecord
+-- ---- the theorem, of these, of the refusals that the paper states as numbers, and of 02's levels
+pub all-hold : Every (numbersToHold ++ refusals ++ ofLevels)
+unfolding numbersToHold refusals ofLevels packedPair packedRecord recordFits recordWords numbers walk each row sum sumZ hadamardAt tileSum diagonalAnswer
+    diagonalOf rootOf scoreAnswer packedScore excessOf placeOf windowOf subpelOf planning.refusalOf planning.holds1 planning.holds2 holds3
+    planning.axisHolds chromaHolds planesHold planning.vectorFits planning.entryHolds allFit turnAt blockAt slotsAt stepOf stepWith quietStep quietRecord
     badStep badRecord filledWith settledAt spotOf chromaPlace negativeOf axisOf shapeOf evaluation.refusalOf evaluation.holds1 evaluation.holds2
     evaluation.referenceHolds evaluation.referencesHold anyUpto isWide recordAt recordOf wordsFrom finishAnswer positionRefusal blockRefusal orderRefusal
-    planOf isPlanFile trailerHolds trailerOf headOf tally wordsUpto headText lineText headAnswer lineAnswer decimal digits digitsBy wordAt
-    bytesOf costNumber slotsAnswer
-all-hold = every-of (numbersToHold ++ refusals) refl
+    planOf isPlanFile trailerHolds trailerOf headOf tally wordsUpto headText lineText headAnswer lineAnswer decimal digits digitsBy wordAt bytesOf
+    costNumber slotsAnswer levels.levelAnswer levels.refusalOf levels.holds2 levels.rawPitchesHold levels.pitchesHold levels.allHaveSides levels.hasSides
+    levels.lengthsKept places.sizeAfter places.wholeRows places.finestRows places.levelRows places.reducedRows places.cutAt places.placeOf places.planesOf
+all-hold = every-of (numbersToHold ++ refusals ++ ofLevels) refl

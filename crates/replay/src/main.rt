@@ -21,6 +21,8 @@ enum Kind {
     SerpentineBlock,
     SerpentineOrder,
     Finish,
+    PlaneSize,
+    LevelOffset,
     Unknown,
 }
 
@@ -37,6 +39,16 @@ fn is_word(word: &[u8], name: &[u8]) -> bool {
     all
 }
 
+fn kind_of_level(word: &[u8]) -> Kind {
+    if is_word(word, b"plane_size") {
+        return Kind::PlaneSize;
+    }
+    if is_word(word, b"level_offset") {
+        return Kind::LevelOffset;
+    }
+    Kind::Unknown
+}
+
 fn kind_of_grid(word: &[u8]) -> Kind {
     if is_word(word, b"serpentine_position") {
         return Kind::SerpentinePosition;
@@ -50,7 +62,7 @@ fn kind_of_grid(word: &[u8]) -> Kind {
     if is_word(word, b"finish") {
         return Kind::Finish;
     }
-    Kind::Unknown
+    kind_of_level(word)
 }
 
 fn kind_of_block(word: &[u8]) -> Kind {
@@ -107,6 +119,8 @@ fn agrees(kind: Kind, n: &[i64; 8200], inputs: usize, count: usize) -> bool {
         Kind::SerpentineBlock => replay_grid::serpentine_block_agrees(n, inputs, count),
         Kind::SerpentineOrder => replay_grid::serpentine_order_agrees(n, inputs, count),
         Kind::Finish => replay_grid::finish_agrees(n, inputs, count),
+        Kind::PlaneSize => replay_levels::plane_size_agrees(n, inputs, count),
+        Kind::LevelOffset => replay_levels::level_offset_agrees(n, inputs, count),
         Kind::Unknown => false,
     }
 }

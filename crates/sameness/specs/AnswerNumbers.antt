@@ -15,6 +15,9 @@ use Rattle.serpentine.specs.Answers.{positionRefusal, positionAnswer, positionN
 use Rattle.serpentine.specs.Entries.{number-of-position, number-of-block}
 use Rattle.score.specs.Diagonal.{frameFits, diagonalAnswer, answerNumber}
 use Rattle.score.specs.Score.{scoreFits, scoreAnswer}
+use Rattle.level_places.specs.declared.SuperFrame.{SuperFrame}
+use Rattle.levels.specs.Refusals as level
+use Rattle.levels.specs.Table.{number-of-answer}
 use Rattle.block.specs.declared.Settings.{Settings}
 use Rattle.planning.specs.declared.Made.{Made}
 use Rattle.planning.specs.Refusals.{refusalOf}
@@ -54,6 +57,11 @@ diagonal-number width height pel = by-test answerNumber (frameFits width height 
 pub packed-score-number : (x y sad diagonal average : ℤ) → answerNumber (scoreAnswer x y sad diagonal average) ≡ first (not (scoreFits x y diagonal)) 2 0
 unfolding scoreAnswer
 packed-score-number x y sad diagonal average = by-test answerNumber (scoreFits x y diagonal) refl refl
+
+-- ---- levels: the first of 2, 9 and 3 that applies, in that order
+pub level-number : (f : SuperFrame) (luma u v sourceLuma sourceU sourceV : ℕ)
+    → level.levelNumber (level.levelAnswer f luma u v sourceLuma sourceU sourceV) ≡ level.refusalOf f luma u v sourceLuma sourceU sourceV
+level-number = number-of-answer
 
 -- ---- planning: the lowest of 1 to 6 that applies
 pub plan-number : (s : Settings) (order vectors : List ℤ) (luma u v words indices : ℕ)

@@ -29,6 +29,8 @@ use Rattle.serpentine.proofs.serpentine_order as serpentine-order
 use Rattle.score.proofs.diagonal as diagonal
 use Rattle.score.proofs.output_word as output-word
 use Rattle.score.proofs.packed_score as packed-score
+use Rattle.levels.proofs.level as level
+use Rattle.levels.proofs.level_numbers as level-numbers
 use Rattle.planning.proofs.plan as plan
 use Rattle.evaluation.proofs.evaluate as evaluate
 use Rattle.zero_law.proofs.evaluate_knowing as evaluate-knowing
@@ -52,6 +54,7 @@ use Rattle.hirupango.proofs.hirupango_packed_score as hirupango-packed-score
 use Rattle.hirupango.proofs.hirupango_diagonal as hirupango-diagonal
 use Rattle.hirupango.proofs.hirupango_slots as hirupango-slots
 use Rattle.hirupango.proofs.hirupango_serpentine_order as hirupango-serpentine-order
+use Rattle.hirupango.proofs.hirupango_level as hirupango-level
 use Rattle.hirupango.proofs.hirupango_plan as hirupango-plan
 use Rattle.hirupango.proofs.hirupango_evaluate as hirupango-evaluate
 use Rattle.hirupango.proofs.hirupango_finish as hirupango-finish
@@ -168,6 +171,13 @@ module _ {M : Type 1} (𝓤 : URA M) where
     pub packed-score-same : Same packed-score.ended (packed-score.clauses 𝓤 H A mem run) (λ κs r e. r)
     packed-score-same κs a g r s e f = one
 
+    -- ---- levels
+    pub level-same : Same level.ended (level.clauses 𝓤 H A mem run) (λ κs r e. r)
+    level-same κs a g r s e f = one
+
+    pub level-numbers-same : Same level-numbers.ended (level-numbers.clauses 𝓤 H A mem run) (λ κs r e. r & now (e .1 .1 .1 .1 .1 .1 .1 .0))
+    level-numbers-same κs a g r s e f = two
+
     -- ---- planning
     pub plan-same : Same plan.ended (plan.clauses 𝓤 H A mem run) (λ κs r e. r & (now (e .1 .1 .1 .1 .1 .1 .0) & now (e .1 .1 .1 .1 .1 .1 .1 .0)))
     plan-same κs a g r s e f = three
@@ -217,6 +227,9 @@ module _ {M : Type 1} (𝓤 : URA M) where
     pub hirupango-serpentine-order-same : Same hirupango-serpentine-order.ended (hirupango-serpentine-order.clauses 𝓤 H A mem run)
         (λ κs r e. r & now (e .1 .1 .0))
     hirupango-serpentine-order-same κs a g r s e f = two
+
+    pub hirupango-level-same : Same hirupango-level.ended (hirupango-level.clauses 𝓤 H A mem run) (λ κs r e. r & now (e .1 .1 .1 .1 .1 .1 .1 .0))
+    hirupango-level-same κs a g r s e f = two
 
     pub hirupango-plan-same : Same hirupango-plan.ended (hirupango-plan.clauses 𝓤 H A mem run)
         (λ κs r e. r & (now (e .1 .1 .1 .1 .1 .1 .0) & now (e .1 .1 .1 .1 .1 .1 .1 .0)))

@@ -1,0 +1,89 @@
+-- What Levels says of a side: it never grows from one level to the next, and is even from level 1 on. Assumes nothing.
+use mathlib.Core.Path.{_≡_, refl, ap, _∙_}
+use mathlib.Core.Bool.{true, false}
+use mathlib.Core.Logic.{⊎-elim}
+use Prim.Native.Nat.{ℕ, zero, suc, _+_, _*_, _/_, _≤_, _<_}
+use native.Mathlib.Numerals.{add-one}
+use native.Mathlib.Omega.{arith}
+use lib.IntN.{ℤ, pos, negsuc, _*ℤ_, natAbs}
+use lib.Signed.{quotZ, ltZ, _≤ℤ_}
+use mir.Syntax.{w32}
+use mir.Val.{SFits}
+use Rattle.whole.specs.Signed.{P, N, signed, neg-P, neg-N, range, fit, ltZ-true, ltZ-false, lt-or-ge}
+use Rattle.whole.specs.Floor.{quot-P, quot-N}
+use Rattle.level_places.specs.Levels.{sizeAfter, turnsOf}
+
+-- ---- one level: how far a number lies above and below zero, divided by 4 and doubled
+twice-P : (x : ℤ) → P (pos 2 *ℤ x) ≡ 2 * P x
+twice-P (pos n) = refl
+twice-P (negsuc n) = neg-P (pos (2 * suc n))
+
+twice-N : (x : ℤ) → N (pos 2 *ℤ x) ≡ 2 * N x
+twice-N (pos n) = refl
+twice-N (negsuc n) = neg-N (pos (2 * suc n))
+
+abbrev pub reduced : ℤ → ℤ
+reduced z = pos 2 *ℤ quotZ z (pos 4)
+
+pub reduced-P : (z : ℤ) → P (reduced z) ≡ 2 * (P z / 4)
+reduced-P z = twice-P (quotZ z (pos 4)) ∙ ap (λ (n : ℕ). 2 * n) (quot-P z 4)
+
+pub reduced-N : (z : ℤ) → N (reduced z) ≡ 2 * (N z / 4)
+reduced-N z = twice-N (quotZ z (pos 4)) ∙ ap (λ (n : ℕ). 2 * n) (quot-N z 4)
+
+pub reduced-fits : {z : ℤ} → SFits w32 z → SFits w32 (reduced z)
+reduced-fits {z} f = fit (omega (arith, range f, reduced-P z, reduced-N z)) (omega (arith, range f, reduced-P z, reduced-N z))
+
+pub size-fits : {z : ℤ} (n : ℕ) → SFits w32 z → SFits w32 (sizeAfter n z)
+unfolding sizeAfter
+size-fits zero f = f
+size-fits (suc n) f = reduced-fits (size-fits n f)
+
+pub size-more : (n : ℕ) (z : ℤ) → sizeAfter (n + 1) z ≡ reduced (sizeAfter n z)
+unfolding sizeAfter
+size-more n z = rw add-one
+
+-- ---- how many turns a level takes
+pub no-turns : (z : ℤ) → ltZ z (pos 0) ≡ true → 0 ≡ turnsOf z
+no-turns (pos n) e = absurd (omega (signed, ltZ-true (pos n) (pos 0) e))
+no-turns (negsuc n) e = refl
+
+pub some-turns : (z : ℤ) → ltZ z (pos 0) ≡ false → natAbs z ≡ turnsOf z
+some-turns (pos n) e = refl
+some-turns (negsuc n) e = absurd (omega (signed, ltZ-false (negsuc n) (pos 0) e))
+
+-- ---- 02's words of a side: it never grows, and it is even from level 1 on
+module _ (z : ℤ) (natural : pos 0 ≤ℤ z) where
+  reduced-less : (x : ℤ) → pos 0 ≤ℤ x → (pos 0 ≤ℤ reduced x) × (reduced x ≤ℤ x)
+  reduced-less (pos a) h = (omega (signed, reduced-P (pos a), reduced-N (pos a)), omega (signed, reduced-P (pos a), reduced-N (pos a)))
+  reduced-less (negsuc a) h = absurd (omega signed)
+
+  pub size-natural : (n : ℕ) → pos 0 ≤ℤ sizeAfter n z
+  unfolding sizeAfter
+  size-natural zero = natural
+  size-natural (suc n) = reduced-less (sizeAfter n z) (size-natural n) .0
+
+  pub never-grows : (l m : ℕ) → l ≤ m → sizeAfter m z ≤ℤ sizeAfter l z
+  unfolding sizeAfter
+  never-grows l zero h = let e : l ≡ 0 = omega arith in rw e (omega signed)
+  never-grows l (suc m) h =
+      ⊎-elim
+      (λ (k : l < suc m). let a = never-grows l m (omega arith) in let b = reduced-less (sizeAfter m z) (size-natural m) .1 in omega signed)
+      (λ (k : suc m ≤ l). let e : l ≡ suc m = omega arith in rw e (omega signed))
+      (lt-or-ge l (suc m))
+
+pub even-later : (n : ℕ) (z : ℤ) → (half : ℤ) × (sizeAfter (suc n) z ≡ pos 2 *ℤ half)
+unfolding sizeAfter
+even-later n z = (quotZ (sizeAfter n z) (pos 4), refl)
+
+-- so one that is not 0 is 2 or more
+pub two-or-more : (n : ℕ) (z : ℤ) → pos 0 ≤ℤ z → (sizeAfter (suc n) z ≡ pos 0 → ⊥) → pos 2 ≤ℤ sizeAfter (suc n) z
+unfolding sizeAfter
+two-or-more n z natural some = by (sizeAfter n z) (size-natural z natural n) some
+  where
+    by : (x : ℤ) → pos 0 ≤ℤ x → (reduced x ≡ pos 0 → ⊥) → pos 2 ≤ℤ reduced x
+    by (pos a) h k =
+        let above = reduced-P (pos a) in
+        let below = reduced-N (pos a) in
+        ⊎-elim (λ (l : a < 4). absurd (k (omega signed))) (λ (l : 4 ≤ a). omega signed) (lt-or-ge a 4)
+    by (negsuc a) h k = absurd (omega signed)
