@@ -38,4 +38,22 @@ static inline size_t held(struct hirupango_place place) {
     return place.base + (size_t)(place.height - 1) * (size_t)place.pitch + (size_t)place.width;
 }
 
+/* A picture: its sample at a place of a plane. */
+static inline uint8_t texture(int x, int y, int plane) {
+    uint32_t h = (uint32_t)(x * 73 + y * 151 + plane * 31) * 2654435761u;
+    return (uint8_t)((h ^ h >> 15) >> 11);
+}
+
+/* The blocks of a square grid that stay inside their limits first, row by row, and then those of the last row and column. */
+static inline void inside_first(int32_t *order, int grid) {
+    int n = 0;
+    for (int rim = 0; rim < 2; rim++)
+        for (int y = 0; y < grid; y++)
+            for (int x = 0; x < grid; x++)
+                if ((x == grid - 1 || y == grid - 1) == rim) {
+                    order[2 * n] = x;
+                    order[2 * n++ + 1] = y;
+                }
+}
+
 #endif

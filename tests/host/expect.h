@@ -35,5 +35,7 @@ void evaluate_refusals_tests(void);
 void evaluate_runs_tests(void);
 void finish_refusals_tests(void);
 void frame_pair_tests(void);
+void level_tests(void);
+void level_pass_tests(void);
 
 #endif

@@ -1,6 +1,6 @@
 /* The pass on a small frame pair: a texture that moves by (2,2), predictors that say (0,0). Every block that can see it there finds it; the first
  * block inside behind a moved one looks for the samples of another place, and doesn't. Refused input leaves all that is lent. */
-#include "../../include/hirupango.h"
+#include "cases.h"
 #include "expect.h"
 
 enum { SIDE = 48, HALF = SIDE / 2, GRID = 6, BLOCKS = GRID * GRID, INSIDE = GRID - 1, WORDS = 12, MOTION = 2 };
@@ -10,26 +10,9 @@ static uint8_t next_luma[SIDE * SIDE], next_u[HALF * HALF], next_v[HALF * HALF];
 static int32_t order[2 * BLOCKS], vectors[3 * BLOCKS], records[WORDS * BLOCKS], indices[BLOCKS], bests[4 * BLOCKS],
     output[2 * BLOCKS];
 
-static uint8_t texture(int x, int y, int plane) {
-    uint32_t h = (uint32_t)(x * 73 + y * 151 + plane * 31) * 2654435761u;
-    return (uint8_t)((h ^ h >> 15) >> 11);
-}
-
 static void fill(uint8_t *plane, int side, int which, int motion) {
     for (int y = 0; y < side; y++)
         for (int x = 0; x < side; x++) plane[y * side + x] = texture(x - motion, y - motion, which);
-}
-
-/* The blocks that stay inside their limits first, row by row, and then those of the last row and column. */
-static void set_order(void) {
-    int n = 0;
-    for (int rim = 0; rim < 2; rim++)
-        for (int y = 0; y < GRID; y++)
-            for (int x = 0; x < GRID; x++)
-                if ((x == INSIDE || y == INSIDE) == rim) {
-                    order[2 * n] = x;
-                    order[2 * n++ + 1] = y;
-                }
 }
 
 static struct hirupango_settings settings(void) {
@@ -45,7 +28,7 @@ static void start(void) {
     fill(next_luma, SIDE, 0, MOTION);
     fill(next_u, HALF, 1, MOTION / 2);
     fill(next_v, HALF, 2, MOTION / 2);
-    set_order();
+    inside_first(order, GRID);
     for (int i = 0; i < BLOCKS; i++) {
         vectors[3 * i] = vectors[3 * i + 1] = 0;
         vectors[3 * i + 2] = 1000;

@@ -93,6 +93,8 @@ int main(void) {
     evaluate_runs_tests();
     finish_refusals_tests();
     frame_pair_tests();
+    level_tests();
+    level_pass_tests();
     end_case();
     printf("host: %ld cases; %ld more were asked before, and are not counted\n", passed + failed, again);
     printf("%ld passed, %ld failed\n", passed, failed);

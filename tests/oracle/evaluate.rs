@@ -3,6 +3,7 @@
 use crate::analyse::field::recalc::{RECORD, inside};
 use crate::kinds::Kind;
 use crate::lines::{Fault, Numbers, Work};
+use crate::plan::PlanCase;
 use crate::planes::{Fill, Plane, frame};
 use crate::{choose, evaluate_cases, evaluate_limits};
 
@@ -75,6 +76,21 @@ impl EvaluateCase {
             reference: Planes::read(numbers)?,
             records: read_records(numbers)?,
         })
+    }
+
+    /// What evaluating is asked with the plan's settings, and no records yet.
+    pub(crate) fn of(plan: &PlanCase, pnew: i32, source: Planes, reference: Planes) -> Self {
+        Self {
+            satd: plan.satd,
+            pel: plan.pel,
+            shift: plan.shift,
+            block: (plan.block.0 as usize, plan.block.1 as usize),
+            search_param: plan.search_param.into(),
+            pnew,
+            source,
+            reference,
+            records: Vec::new(),
+        }
     }
 
     pub(crate) fn numbers(&self) -> Vec<i64> {

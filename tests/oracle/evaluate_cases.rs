@@ -50,21 +50,11 @@ pub(crate) fn around(random: &mut Random, plan: &PlanCase) -> EvaluateCase {
             reference.fills[at] = fill(random);
         }
     }
-    EvaluateCase {
-        satd: plan.satd,
-        pel: plan.pel,
-        shift: plan.shift,
-        block: (plan.block.0 as usize, plan.block.1 as usize),
-        search_param: plan.search_param.into(),
-        pnew: random_pnew(random) as i32,
-        source,
-        reference,
-        records: Vec::new(),
-    }
+    EvaluateCase::of(plan, random_pnew(random) as i32, source, reference)
 }
 
 /// Few levels often: then costs are equal, or 0.
-fn fill(random: &mut Random) -> Fill {
+pub(crate) fn fill(random: &mut Random) -> Fill {
     Fill {
         seed: random.below(1000) as u32,
         levels: random.pick(&[1, 2, 2, 3, 4, 16, 256, 256, 256]),

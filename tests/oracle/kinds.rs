@@ -2,7 +2,10 @@
 
 use crate::lines::{Fault, Numbers, Work};
 use crate::random::Random;
-use crate::{block, choose, cost, evaluate, finish, packing, pass, plan, planes, score, serpentine};
+use crate::{
+    block, choose, cost, evaluate, finish, level_pass, levels, packing, pass, plan, planes, score,
+    serpentine,
+};
 
 pub(crate) struct Kind {
     pub(crate) name: &'static str,
@@ -11,7 +14,7 @@ pub(crate) struct Kind {
     pub(crate) limits: fn() -> Vec<Vec<i64>>,
 }
 
-pub(crate) const KINDS: [Kind; 17] = [
+pub(crate) const KINDS: [Kind; 21] = [
     packing::PAIR,
     packing::UNPAIR,
     packing::RECORD,
@@ -29,6 +32,10 @@ pub(crate) const KINDS: [Kind; 17] = [
     choose::CHOOSE,
     finish::FINISH,
     pass::PASS,
+    levels::PLANE_SIZE,
+    levels::LEVEL_OFFSET,
+    levels::LEVEL,
+    level_pass::LEVEL_PASS,
 ];
 
 pub(crate) fn named(name: &str) -> Option<&'static Kind> {

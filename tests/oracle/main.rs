@@ -4,6 +4,7 @@ mod analyse {
     pub(crate) mod field;
     pub(crate) mod metric;
     pub(crate) mod params;
+    #[path = "../planes_wrapper.rs"]
     pub(crate) mod planes;
 }
 #[path = "value.rs"]
@@ -19,6 +20,10 @@ mod evaluate_limits;
 mod finish;
 mod free_records;
 mod kinds;
+mod level_cases;
+mod level_limits;
+mod level_pass;
+mod levels;
 mod lines;
 mod outside;
 mod outside_cases;

@@ -5,6 +5,7 @@ use crate::analyse::field::recalc::inside::{self, Finished};
 use crate::analyse::planes::{LevelFrame, PlaneView};
 use crate::evaluate::EvaluateCase;
 use crate::finish::FinishCase;
+use crate::levels::LevelCase;
 use crate::lines::{joined, watched};
 use crate::outside_cases;
 use crate::plan::PlanCase;
@@ -25,6 +26,7 @@ pub(crate) enum Case {
     Order(i32, i32),
     Score([i32; 5]),
     Cost(bool, (usize, usize), usize),
+    Level(LevelCase),
     Plan(PlanCase, [Own; 3]),
     /// The records may be no whole ones.
     Evaluate(EvaluateCase, [Own; 6]),
@@ -60,6 +62,7 @@ fn inputs(case: &Case) -> (&'static str, Vec<i64>) {
             "cost",
             vec![(*satd).into(), *width as i64, *height as i64, *pitch as i64],
         ),
+        Case::Level(case) => ("level", case.numbers()),
         Case::Plan(case, planes) => ("plan", plan_inputs(case, planes)),
         Case::Evaluate(case, planes) => ("evaluate", evaluate_inputs(case, planes)),
         Case::Finish(case, vectors, words) => ("finish", finish_inputs(case, *vectors, *words)),
@@ -144,6 +147,7 @@ fn done(case: &Case) -> String {
             )
         }
         Case::Cost(satd, size, pitch) => costed(*satd, *size, *pitch),
+        Case::Level(case) => format!("answers {}", joined(&case.unrefused())),
         Case::Plan(case, planes) => planned(case, planes),
         Case::Evaluate(case, planes) => evaluated(case, planes),
         Case::Finish(..) => unreachable!(),

@@ -4,6 +4,7 @@ use crate::analyse::field::recalc::NONE;
 use crate::evaluate::{EvaluateCase, Planes};
 use crate::finish::FinishCase;
 use crate::free_records::{BAD, pair_word};
+use crate::levels::LevelCase;
 use crate::outside::{Case, Own};
 use crate::plan::PlanCase;
 use crate::planes::{Fill, Plane};
@@ -11,7 +12,7 @@ use crate::planes::{Fill, Plane};
 type Named = (&'static str, Case);
 
 pub(crate) fn all() -> Vec<Named> {
-    [small(), finishes(), plans(), evaluations()]
+    [small(), levels(), finishes(), plans(), evaluations()]
         .into_iter()
         .flatten()
         .collect()
@@ -34,6 +35,38 @@ fn small() -> Vec<Named> {
         ("cost-4x8", Case::Cost(false, (4, 8), 4)),
         ("cost-32x32", Case::Cost(false, (32, 32), 32)),
         ("cost-pitch-3", Case::Cost(false, (4, 4), 3)),
+    ]
+}
+
+/// Level 1 of 10x10 at pel 2, in rows of 16 that are long enough, with one change.
+fn level(change: impl Fn(&mut LevelCase)) -> Case {
+    let mut case = LevelCase::bare((10, 10), (1, 1), 2, 1, false);
+    case.raw.pitches = [16; 6];
+    case.raw.lengths = [1000; 6];
+    change(&mut case);
+    Case::Level(case)
+}
+
+#[rustfmt::skip]
+fn levels() -> Vec<Named> {
+    vec![
+        ("level-minus-1", level(|case| case.level = -1)),
+        ("level-16", level(|case| case.level = 16)),
+        ("level-3", level(|case| case.level = 3)),
+        ("level-1x10", level(|case| {
+            case.size = (1, 10);
+            case.level = 0;
+        })),
+        ("level-10x16385", level(|case| {
+            case.size = (10, 16_385);
+            case.level = 0;
+        })),
+        ("level-pel-3", level(|case| case.pel = 3)),
+        ("level-shifts-0-1", level(|case| case.shift = (0, 1))),
+        ("level-pitch-9", level(|case| case.raw.pitches[0] = 9)),
+        ("level-pitch-65537", level(|case| case.raw.pitches[0] = 65_537)),
+        ("level-no-bytes", level(|case| case.raw.lengths = [0; 6])),
+        ("level-2-30-bytes", level(|case| case.raw.lengths[0] = 1 << 30)),
     ]
 }
 

@@ -20,11 +20,11 @@ pub(crate) const PASS: Kind = Kind {
     limits: Vec::new,
 };
 
-struct PassCase {
-    plan: PlanCase,
-    output: bool,
+pub(crate) struct PassCase {
+    pub(crate) plan: PlanCase,
+    pub(crate) output: bool,
     /// What evaluating is asked beside the plan; its records are the plan's.
-    evaluate: EvaluateCase,
+    pub(crate) evaluate: EvaluateCase,
 }
 
 impl PassCase {
@@ -40,17 +40,8 @@ impl PassCase {
             planes: plan.planes,
             fills,
         };
-        let evaluate = EvaluateCase {
-            satd: plan.satd,
-            pel: plan.pel,
-            shift: plan.shift,
-            block: (plan.block.0 as usize, plan.block.1 as usize),
-            search_param: plan.search_param.into(),
-            pnew,
-            source,
-            reference: Planes::read(numbers)?,
-            records: Vec::new(),
-        };
+        let reference = Planes::read(numbers)?;
+        let evaluate = EvaluateCase::of(&plan, pnew, source, reference);
         Ok(Self {
             plan,
             output,
@@ -69,13 +60,22 @@ impl PassCase {
     }
 
     fn answers(&self) -> Vec<i64> {
-        let Some(planned) = self.plan.plan() else {
+        self.answers_from(self.plan.plan(), EvaluateCase::bests)
+    }
+
+    /// From what was planned, if it was, and what evaluating then answers.
+    pub(crate) fn answers_from(
+        &self,
+        planned: Option<Planned>,
+        bests: impl FnOnce(&EvaluateCase) -> Vec<[i32; 4]>,
+    ) -> Vec<i64> {
+        let Some(planned) = planned else {
             return vec![plan::REFUSED];
         };
         let mut answers = plan::answers(&planned);
         let mut evaluate = self.evaluate.clone();
         evaluate.records.clone_from(&planned.records);
-        let bests = evaluate.bests();
+        let bests = bests(&evaluate);
         answers.extend(bests.as_flattened().iter().map(|&number| i64::from(number)));
         answers.extend(self.finished(&planned, bests));
         answers

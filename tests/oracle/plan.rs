@@ -16,6 +16,13 @@ pub(crate) const PLAN: Kind = Kind {
 /// The Rust says only that it refuses, not why.
 pub(crate) const REFUSED: i64 = -1;
 
+/// What a plan stands on. The line of `plan` says it; that of planes cut from a super frame leaves it to the level.
+pub(crate) struct Ground {
+    pub(crate) pel: i32,
+    pub(crate) shift: (u32, u32),
+    pub(crate) planes: [Plane; 3],
+}
+
 #[derive(Clone)]
 pub(crate) struct PlanCase {
     pub(crate) exhaustive: bool,
@@ -37,6 +44,14 @@ pub(crate) struct PlanCase {
 
 impl PlanCase {
     pub(crate) fn read(numbers: &mut Numbers<'_>) -> Result<Self, Fault> {
+        Self::read_on(None, numbers)
+    }
+
+    /// From a line that has no ground where one is given.
+    pub(crate) fn read_on(
+        ground: Option<&Ground>,
+        numbers: &mut Numbers<'_>,
+    ) -> Result<Self, Fault> {
         Ok(Self {
             exhaustive: numbers.flag()?,
             search_param: numbers.take()?,
@@ -46,21 +61,30 @@ impl PlanCase {
             block: numbers.two()?,
             grid: numbers.two()?,
             step: numbers.two()?,
-            pel: numbers.take()?,
+            pel: ground.map_or_else(|| numbers.take(), |ground| Ok(ground.pel))?,
             smallest: numbers.flag()?,
             need_luma: numbers.flag()?,
-            shift: numbers.two()?,
-            planes: [
-                Plane::read(numbers)?,
-                Plane::read(numbers)?,
-                Plane::read(numbers)?,
-            ],
+            shift: ground.map_or_else(|| numbers.two(), |ground| Ok(ground.shift))?,
+            planes: ground.map_or_else(|| read_planes(numbers), |ground| Ok(ground.planes))?,
             order: read_order(numbers)?,
             vectors: read_vectors(numbers)?,
         })
     }
 
     pub(crate) fn numbers(&self) -> Vec<i64> {
+        let shift = [self.shift.0, self.shift.1].map(i64::from);
+        let planes: Vec<i64> = self.planes.iter().flat_map(Plane::numbers).collect();
+        let ground = [&shift[..], &planes].concat();
+        let pel = vec![self.pel.into()];
+        [self.search(), pel, self.flags(), ground, self.blocks()].concat()
+    }
+
+    /// The line that leaves the ground out.
+    pub(crate) fn numbers_on(&self) -> Vec<i64> {
+        [self.search(), self.flags(), self.blocks()].concat()
+    }
+
+    fn search(&self) -> Vec<i64> {
         let mut line = vec![
             self.exhaustive.into(),
             self.search_param.into(),
@@ -71,14 +95,15 @@ impl PlanCase {
         for (x, y) in [self.block, self.grid, self.step] {
             line.extend([i64::from(x), y.into()]);
         }
-        line.extend([
-            i64::from(self.pel),
-            self.smallest.into(),
-            self.need_luma.into(),
-        ]);
-        line.extend([i64::from(self.shift.0), self.shift.1.into()]);
-        line.extend(self.planes.iter().flat_map(Plane::numbers));
-        line.push(self.order.len() as i64);
+        line
+    }
+
+    fn flags(&self) -> Vec<i64> {
+        vec![self.smallest.into(), self.need_luma.into()]
+    }
+
+    fn blocks(&self) -> Vec<i64> {
+        let mut line = vec![self.order.len() as i64];
         line.extend(self.order.iter().flat_map(|&(x, y)| [x, y].map(i64::from)));
         line.push(self.vectors.len() as i64);
         for &(x, y, sad) in &self.vectors {
@@ -94,6 +119,14 @@ impl PlanCase {
         let data = [0, 1, 2].map(|at: usize| &zeros[..self.planes[at].length]);
         inside::plan(self, &frame(&self.planes, data, self.pel))
     }
+}
+
+fn read_planes(numbers: &mut Numbers<'_>) -> Result<[Plane; 3], Fault> {
+    Ok([
+        Plane::read(numbers)?,
+        Plane::read(numbers)?,
+        Plane::read(numbers)?,
+    ])
 }
 
 fn read_order(numbers: &mut Numbers<'_>) -> Result<Vec<(i16, i16)>, Fault> {

@@ -8,7 +8,7 @@ use crate::random::{GREATEST, Random, to_half, to_word};
 pub(crate) const BLOCKS: [(i32, i32); 3] = [(8, 8), (16, 8), (16, 16)];
 pub(crate) const SHIFTS: [(u32, u32); 3] = [(0, 0), (1, 0), (1, 1)];
 pub(crate) const LONGEST_DATA: usize = (1 << 30) - 1;
-const LONGEST_SIDE: i64 = 16_384;
+pub(crate) const LONGEST_SIDE: i64 = 16_384;
 
 /// How far a case may go.
 #[derive(Clone, Copy, PartialEq)]
@@ -36,28 +36,58 @@ pub(crate) fn small(random: &mut Random) -> PlanCase {
 }
 
 fn accepted(random: &mut Random, reach: Reach) -> PlanCase {
+    let layout = layout(random, reach);
+    let pel = random.pick(&[1, 2, 4]);
+    let shift = random.pick(&SHIFTS);
+    let size = sides(random, reach, &layout);
+    let planes = |random: &mut Random| planes(random, reach, size, shift);
+    on_planes(random, layout, pel, shift, planes)
+}
+
+/// The blocks, from which the least sides of the frame follow.
+pub(crate) struct Layout {
+    block: (i32, i32),
+    grid: (i32, i32),
+    step: (i32, i32),
+}
+
+fn layout(random: &mut Random, reach: Reach) -> Layout {
     let block = random.pick(&BLOCKS);
     let grid = grid(random, reach);
     let step = (step(random, block.0), step(random, block.1));
-    let pel = random.pick(&[1, 2, 4]);
-    let shift = random.pick(&SHIFTS);
-    let width = frame_side(random, reach, grid.0, step.0, block.0);
-    let height = frame_side(random, reach, grid.1, step.1, block.1);
+    Layout { block, grid, step }
+}
+
+/// Few blocks, and a frame that has room for them.
+pub(crate) fn small_layout(random: &mut Random) -> (Layout, (i64, i64)) {
+    let layout = layout(random, Reach::Small);
+    let size = sides(random, Reach::Small, &layout);
+    (layout, size)
+}
+
+/// A plan of these blocks. Its planes are made when their turn comes: a seed's lines depend on the order of the draws.
+pub(crate) fn on_planes(
+    random: &mut Random,
+    layout: Layout,
+    pel: i32,
+    shift: (u32, u32),
+    planes: impl FnOnce(&mut Random) -> [Plane; 3],
+) -> PlanCase {
     let mut case = PlanCase {
         exhaustive: true,
         search_param: random.between(-3, 3) as i32,
         lambda: lambda(random) as i32,
         bad_sad: bad_sad(random) as i32,
         satd: random.flag(),
-        block,
-        grid,
-        step,
+        block: layout.block,
+        grid: layout.grid,
+        step: layout.step,
         pel,
         smallest: random.flag(),
         need_luma: random.flag(),
         shift,
-        planes: planes(random, reach, (width, height), shift),
-        order: order(random, grid),
+        planes: planes(random),
+        order: order(random, layout.grid),
         vectors: Vec::new(),
     };
     case.vectors = vectors(random, &case);
@@ -89,6 +119,13 @@ fn grid(random: &mut Random, reach: Reach) -> (i32, i32) {
 fn step(random: &mut Random, block: i32) -> i32 {
     let block = i64::from(block);
     random.pick_or(&[block, block, block / 2, block / 4, 1], 1, block) as i32
+}
+
+fn sides(random: &mut Random, reach: Reach, layout: &Layout) -> (i64, i64) {
+    let (block, grid, step) = (layout.block, layout.grid, layout.step);
+    let width = frame_side(random, reach, grid.0, step.0, block.0);
+    let height = frame_side(random, reach, grid.1, step.1, block.1);
+    (width, height)
 }
 
 fn frame_side(random: &mut Random, reach: Reach, blocks: i32, step: i32, block: i32) -> i64 {

@@ -13,7 +13,7 @@ pub(crate) const OFFSET: Kind = Kind {
 };
 
 /// More than the greatest length accepted, so that the refusal can be seen, and still little enough to be lent.
-const LONGEST: i64 = 1 << 31;
+pub(crate) const LONGEST: i64 = 1 << 31;
 
 #[derive(Clone, Copy)]
 pub(crate) struct Plane {
@@ -25,6 +25,17 @@ pub(crate) struct Plane {
 }
 
 impl Plane {
+    /// One that the Rust has made.
+    pub(crate) fn of(view: &PlaneView<'_>) -> Self {
+        Self {
+            base: view.base(),
+            pitch: view.pitch,
+            width: view.width,
+            height: view.height,
+            length: view.data().len(),
+        }
+    }
+
     /// Its place alone, without data.
     pub(crate) fn read_place(numbers: &mut Numbers<'_>) -> Result<Self, Fault> {
         Ok(Self {

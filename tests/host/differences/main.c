@@ -125,6 +125,31 @@ static void ask_cost(void) {
     answered(hirupango_block_cost(given[0], width, height, a, length, pitch, zero_bytes(), length, pitch, (uint8_t *)out.at, 8), out);
 }
 
+/* The three packed planes, whether the source lies apart, the source's three; then six lengths. */
+static void ask_level(void) {
+    struct hirupango_super_frame f;
+    f.frame = take_sides();
+    f.shift = take_sides();
+    f.pel = take_word();
+    f.level = take_word();
+    f.pitch.luma = take_word();
+    f.pitch.u = take_word();
+    f.pitch.v = take_word();
+    f.separate = take() != 0;
+    f.source_pitch.luma = take_word();
+    f.source_pitch.u = take_word();
+    f.source_pitch.v = take_word();
+    size_t n[6];
+    for (int at = 0; at < 6; at++) n[at] = (size_t)take();
+    const uint8_t *bytes = unread_bytes();
+    struct lent planes = lend(15);
+    uint32_t number = hirupango_level(f, bytes, n[0], bytes, n[1], bytes, n[2], bytes, n[3], bytes, n[4], bytes, n[5], planes.at, planes.length);
+    if (number != 0) return refused(number, planes, lend(0));
+    printf("answers");
+    for (size_t i = 0; i < planes.length; i++) printf(" %d", planes.at[i]);
+    printf("\n");
+}
+
 static void ask_plan(void) {
     struct hirupango_settings s = {.search.exhaustive = true};
     s.search.search_param = take_word();
@@ -200,7 +225,7 @@ static const struct {
     const char *name;
     void (*ask)(void);
 } kinds[] = {{"order", ask_order}, {"score", ask_score},       {"cost", ask_cost},
-             {"plan", ask_plan},   {"evaluate", ask_evaluate}, {"finish", ask_finish}};
+             {"plan", ask_plan},   {"evaluate", ask_evaluate}, {"finish", ask_finish}, {"level", ask_level}};
 
 int main(void) {
     char kind[16];

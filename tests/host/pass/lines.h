@@ -59,6 +59,17 @@ struct bytes take_plane(struct numbers *from, int32_t pel, struct hirupango_plac
 /* What planning is asked, and how many bytes each plane has. */
 struct hirupango_settings take_settings(struct numbers *from, size_t lengths[3], bool *satd);
 
+/* The same where the line leaves pel, shifts and planes to a level: these three are not set. */
+void take_settings_on_level(struct numbers *from, struct hirupango_settings *s, bool *satd);
+
+/* A super frame's raw planes are six: the packed luma, U and V, and then the separate source's. Of two frames the second has only raw planes of its
+ * own on the line. */
+enum { RAW = 6, CUT = 15 };
+
+struct hirupango_super_frame take_super_frame(struct numbers *from, size_t lengths[RAW]);
+void take_raw_planes(struct numbers *from, struct hirupango_super_frame *frame, size_t lengths[RAW]);
+uint32_t ask_level(struct hirupango_super_frame frame, const uint8_t *const at[RAW], const size_t lengths[RAW], struct lent planes);
+
 /* Whether a done plan's slots and diagonal are the next answers. */
 bool made_agrees(struct hirupango_settings s, struct numbers *answers);
 
@@ -71,5 +82,7 @@ bool plan_agrees(size_t line, struct numbers inputs, struct numbers answers);
 bool evaluate_agrees(size_t line, struct numbers inputs, struct numbers answers);
 bool pass_agrees(size_t line, struct numbers inputs, struct numbers answers);
 bool finish_agrees(size_t line, struct numbers inputs, struct numbers answers);
+bool level_agrees(size_t line, struct numbers inputs, struct numbers answers);
+bool level_pass_agrees(size_t line, struct numbers inputs, struct numbers answers);
 
 #endif

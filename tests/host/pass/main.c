@@ -9,7 +9,8 @@ void *realloc(void *at, size_t n);
 static const struct {
     const char *name;
     bool (*agrees)(size_t line, struct numbers inputs, struct numbers answers);
-} kinds[] = {{"plan", plan_agrees}, {"evaluate", evaluate_agrees}, {"finish", finish_agrees}, {"pass", pass_agrees}};
+} kinds[] = {{"plan", plan_agrees}, {"evaluate", evaluate_agrees}, {"finish", finish_agrees},
+             {"pass", pass_agrees}, {"level", level_agrees},       {"level_pass", level_pass_agrees}};
 
 enum { KINDS = sizeof kinds / sizeof *kinds };
 

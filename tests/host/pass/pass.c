@@ -1,19 +1,7 @@
 /* The whole pass: what planning writes is evaluated, and its bests are finished, in the buffers that a host would keep. */
-#include "lines.h"
+#include "pass.h"
 
-enum { WORDS = 12, NUMBERS = 4, PLANES = 3 };
-
-struct pass {
-    struct hirupango_settings settings;
-    struct hirupango_request request;
-    bool output_asked;
-    size_t blocks;
-    int32_t *order, *vectors;
-    struct bytes planes[2 * PLANES];
-};
-
-/* Evaluating is asked what planning was. */
-static struct hirupango_request request_of(struct hirupango_settings s, bool satd, int32_t pnew) {
+struct hirupango_request request_of(struct hirupango_settings s, bool satd, int32_t pnew) {
     struct hirupango_request q;
     q.satd = satd;
     q.block = s.block;
@@ -27,26 +15,35 @@ static struct hirupango_request request_of(struct hirupango_settings s, bool sat
     return q;
 }
 
-static bool take_pass(struct numbers *from, struct pass *p) {
-    size_t lengths[PLANES];
-    bool satd;
-    p->settings = take_settings(from, lengths, &satd);
+bool take_blocks(struct numbers *from, struct pass *p) {
     p->blocks = (size_t)take(from);
     p->order = take_words(from, 2 * p->blocks);
     size_t held = (size_t)take(from);
     p->vectors = take_words(from, 3 * held);
+    return held == p->blocks;
+}
+
+void leave_blocks(struct pass *p) {
+    free(p->order);
+    free(p->vectors);
+}
+
+static bool take_pass(struct numbers *from, struct pass *p) {
+    size_t lengths[PLANES];
+    bool satd;
+    p->settings = take_settings(from, lengths, &satd);
+    bool as_many = take_blocks(from, p);
     p->request = request_of(p->settings, satd, (int32_t)take(from));
     p->output_asked = take(from) != 0;
     for (size_t plane = 0; plane < PLANES; plane++) p->planes[plane] = take_bytes(from, lengths[plane]);
     p->planes[3] = take_plane(from, p->request.pel, &p->request.reference.luma);
     p->planes[4] = take_plane(from, p->request.pel, &p->request.reference.u);
     p->planes[5] = take_plane(from, p->request.pel, &p->request.reference.v);
-    return used_up(from) && held == p->blocks;
+    return used_up(from) && as_many;
 }
 
 static void leave(struct pass *p) {
-    free(p->order);
-    free(p->vectors);
+    leave_blocks(p);
     for (size_t plane = 0; plane < 2 * PLANES; plane++) free(p->planes[plane].at);
 }
 
@@ -72,7 +69,7 @@ static bool finished_agrees(const struct pass *p, struct lent indices, struct le
     return agrees;
 }
 
-static bool steps_agree(const struct pass *p, size_t line, struct numbers answers) {
+bool steps_agree(const struct pass *p, size_t line, struct numbers answers) {
     size_t n = p->blocks;
     const struct bytes *b = p->planes;
     struct lent records = lend(WORDS * n, line), indices = lend(n, line), bests = lend(NUMBERS * n, line);

@@ -5,24 +5,38 @@ enum { WORDS = 12 };
 
 static const size_t MOST_READ = ((size_t)1 << 30) - 1;
 
+/* The line of a plan has pel before the two flags, and shifts and planes behind them. */
+static void take_search(struct numbers *from, struct hirupango_settings *s, bool *satd) {
+    s->search.exhaustive = take(from) != 0;
+    s->search.search_param = (int32_t)take(from);
+    s->weights.lambda = (int32_t)take(from);
+    s->weights.bad_sad = (int32_t)take(from);
+    *satd = take(from) != 0; /* which planning does not look at */
+    s->block = take_sides(from);
+    s->grid = take_sides(from);
+    s->step = take_sides(from);
+}
+
+static void take_flags(struct numbers *from, struct hirupango_settings *s) {
+    s->level.smallest = take(from) != 0;
+    s->level.need_luma = take(from) != 0;
+}
+
 struct hirupango_settings take_settings(struct numbers *from, size_t lengths[3], bool *satd) {
     struct hirupango_settings s;
-    s.search.exhaustive = take(from) != 0;
-    s.search.search_param = (int32_t)take(from);
-    s.weights.lambda = (int32_t)take(from);
-    s.weights.bad_sad = (int32_t)take(from);
-    *satd = take(from) != 0; /* which planning does not look at */
-    s.block = take_sides(from);
-    s.grid = take_sides(from);
-    s.step = take_sides(from);
+    take_search(from, &s, satd);
     s.level.pel = (int32_t)take(from);
-    s.level.smallest = take(from) != 0;
-    s.level.need_luma = take(from) != 0;
+    take_flags(from, &s);
     s.shift = take_sides(from);
     s.planes.luma = take_place(from, s.level.pel, lengths);
     s.planes.u = take_place(from, s.level.pel, lengths + 1);
     s.planes.v = take_place(from, s.level.pel, lengths + 2);
     return s;
+}
+
+void take_settings_on_level(struct numbers *from, struct hirupango_settings *s, bool *satd) {
+    take_search(from, s, satd);
+    take_flags(from, s);
 }
 
 /* A number that an export gives as four bytes. */
