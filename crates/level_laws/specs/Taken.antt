@@ -9,10 +9,10 @@ use lib.Dec.{eqb}
 use lib.IntN.{ℤ, pos, _+ℤ_, _-ℤ_, _*ℤ_}
 use lib.ListN.{length, take}
 use lib.Signed.{leZ}
-use Rattle.whole.specs.Signed.{signed}
-use Rattle.whole.specs.Truth.{both-of}
+use Rattle.whole.specs.Truth.{both-of, and-true, and-false}
 use Rattle.limits.specs.Sizes.{wordsPerRecord, numbersPerBest}
 use Rattle.limits.specs.Limits.{same, isFrameSide, isGridSide, isStep, isPel, areShifts, shiftedBy}
+use Rattle.limits.specs.Ranges.{same-of}
 use Rattle.plane.specs.declared.Place.{Place}
 use Rattle.planes.specs.declared.Sides.{Sides}
 use Rattle.planes.specs.declared.Planes.{Planes}
@@ -33,14 +33,6 @@ use Rattle.whole_pass.specs.Pass.{requestOf}
 use Rattle.whole_pass.specs.Done.{Referred}
 use Rattle.whole_pass.specs.ThreeCalls.{evaluated}
 use Rattle.level_laws.specs.Asked.{Bytes, answerOf, lumaOf, uOf, vOf}
-
-and-true : (t : Bool) → (t && true) ≡ t
-and-true true = refl
-and-true false = refl
-
-and-false : (t : Bool) → (t && false) ≡ false
-and-false true = refl
-and-false false = refl
 
 -- a number is not given where its test says no
 never : (k : ℕ) {n : ℕ} {test : Bool} → n ≡ k → eqb n k ≡ test → test ≡ false → ⊥
@@ -117,9 +109,6 @@ pub record Alike (f g : SuperFrame) : Type 0 where
   pub shift : f .shift ≡ g .shift
   pub pel : f .pel ≡ g .pel
   pub level : f .level ≡ g .level
-
-same-of : {x y : ℤ} → x ≡ y → same x y ≡ true
-same-of {x} {y} e = let a : leZ x y ≡ true = omega signed in let b : leZ y x ≡ true = omega signed in rw (a, b)
 
 -- a plane of the one has the sides and the pel of the same plane of the other
 module _ (f g : SuperFrame) (alike : Alike f g) where

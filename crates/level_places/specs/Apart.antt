@@ -1,6 +1,6 @@
 -- Two levels of one packed plane lie apart: they share no row, and where the pitch is at least the width no byte. Assumes nothing.
 use mathlib.Core.Path.{_≡_, refl, ap, subst, _∙_}
-use mathlib.Core.Bool.{Bool, true, false, _&&_}
+use mathlib.Core.Bool.{Bool, true, false}
 use mathlib.Core.Logic.{⊎-elim}
 use Prim.Native.Nat.{ℕ, zero, suc, _+_, _*_, _/_, _≤_, _<_}
 use native.Mathlib.Omega.{arith}
@@ -8,6 +8,7 @@ use lib.Arith.{digits-div}
 use lib.IntN.{ℤ, pos, natAbs}
 use lib.Signed.{leZ, _≤ℤ_}
 use Rattle.whole.specs.Signed.{signed, abs-is, lt-or-ge}
+use Rattle.whole.specs.Truth.{and-false}
 use Rattle.plane.specs.declared.Place.{Place}
 use Rattle.planes.specs.declared.Sides.{Sides}
 use Rattle.level_places.specs.declared.SuperFrame.{SuperFrame}
@@ -47,10 +48,6 @@ module _ (f : SuperFrame) (shift : ℤ) where
       (lt-or-ge l m)
 
 -- ---- bytes
-and-false : (t : Bool) → (t && false) ≡ false
-and-false true = refl
-and-false false = refl
-
 module _ (f : SuperFrame) (shift : Sides) (pitch : ℤ) where
   -- where a packed level's plane lies: in front of it stand so many rows, and it has so many
   pub record LiesAt (n : ℕ) (p : Place) : Type 0 where

@@ -1,16 +1,19 @@
 -- What Levels says of a side: it never grows from one level to the next, and is even from level 1 on. Assumes nothing.
 use mathlib.Core.Path.{_≡_, refl, ap, _∙_}
-use mathlib.Core.Bool.{true, false}
+use mathlib.Core.Bool.{Bool, true, false, cond}
 use mathlib.Core.Logic.{⊎-elim}
 use Prim.Native.Nat.{ℕ, zero, suc, _+_, _*_, _/_, _≤_, _<_}
+use native.Mathlib.Nat.{mul-le-mul-left}
 use native.Mathlib.Numerals.{add-one}
 use native.Mathlib.Omega.{arith}
 use lib.IntN.{ℤ, pos, negsuc, _*ℤ_, natAbs}
-use lib.Signed.{quotZ, ltZ, _≤ℤ_}
+use lib.Dec.{lit<}
+use lib.Signed.{quotZ, shrZ, ltZ, _≤ℤ_}
 use mir.Syntax.{w32}
 use mir.Val.{SFits}
 use Rattle.whole.specs.Signed.{P, N, signed, neg-P, neg-N, range, fit, ltZ-true, ltZ-false, lt-or-ge}
-use Rattle.whole.specs.Floor.{quot-P, quot-N}
+use Rattle.whole.specs.Floor.{floor-high, quot-P, quot-N}
+use Rattle.limits.specs.Limits.{shiftedBy}
 use Rattle.level_places.specs.Levels.{sizeAfter, turnsOf}
 
 -- ---- one level: how far a number lies above and below zero, divided by 4 and doubled
@@ -87,3 +90,47 @@ two-or-more n z natural some = by (sizeAfter n z) (size-natural z natural n) som
         let below = reduced-N (pos a) in
         ⊎-elim (λ (l : a < 4). absurd (k (omega signed))) (λ (l : 4 ≤ a). omega signed) (lt-or-ge a 4)
     by (negsuc a) h k = absurd (omega signed)
+
+-- and chroma's side, shifted, comes to 0 only where luma's does
+pub shifted-gone : (n : ℕ) (z s : ℤ) → pos 0 ≤ℤ z → shiftedBy (sizeAfter (suc n) z) s ≡ pos 0 → sizeAfter (suc n) z ≡ pos 0
+unfolding sizeAfter
+shifted-gone n z s natural = by (sizeAfter n z) (size-natural z natural n) (ltZ s (pos 1))
+  where
+    by : (x : ℤ) → pos 0 ≤ℤ x → (t : Bool) → cond t (reduced x) (shrZ (reduced x) 2) ≡ pos 0 → reduced x ≡ pos 0
+    by x h true e = e
+    by (pos a) h false e =
+        let above = reduced-P (pos a) in
+        let below = reduced-N (pos a) in
+        omega (signed, floor-high {m = 2} (lit< tt) (reduced (pos a)))
+    by (negsuc a) h false e = absurd (omega signed)
+
+-- ---- a frame's side has come to 0 at level 14: 16,384 is 2 at level 13
+later-P : (n : ℕ) (z : ℤ) → P (sizeAfter (suc n) z) ≡ 2 * (P (sizeAfter n z) / 4)
+unfolding sizeAfter
+later-P n z = reduced-P (sizeAfter n z)
+
+-- after n levels more a side is so many times smaller
+smaller : (z : ℤ) (m n k : ℕ) → k * P (sizeAfter m z) ≤ n → (2 * k) * P (sizeAfter (suc m) z) ≤ n
+smaller z m n k h =
+    let half : 2 * P (sizeAfter (suc m) z) ≤ P (sizeAfter m z) = omega (arith, later-P m z) in
+    let times : k * (2 * P (sizeAfter (suc m) z)) ≤ k * P (sizeAfter m z) = mul-le-mul-left k half in
+    omega arith
+
+pub gone : (z : ℤ) → pos 0 ≤ℤ z → z ≤ℤ pos 16384 → (n : ℕ) → 14 ≤ n → sizeAfter n z ≡ pos 0
+unfolding sizeAfter
+gone z low high n late =
+    let step : (m k : ℕ) → k * P (sizeAfter m z) ≤ 16384 → (2 * k) * P (sizeAfter (suc m) z) ≤ 16384 = λ m k. smaller z m 16384 k in
+    let four = step 3 8 (step 2 4 (step 1 2 (step 0 1 (start z low high)))) in
+    let eight = step 7 128 (step 6 64 (step 5 32 (step 4 16 four))) in
+    let fourteen = step 13 8192 (step 12 4096 (step 11 2048 (step 10 1024 (step 9 512 (step 8 256 eight))))) in
+    by (sizeAfter n z) (sizeAfter 14 z) (P (sizeAfter 13 z) / 4) (size-natural z low n) (never-grows z low 14 n late) (size-natural z low 14) fourteen
+    (later-P 13 z)
+  where
+    start : (x : ℤ) → pos 0 ≤ℤ x → x ≤ℤ pos 16384 → 1 * P x ≤ 16384
+    start (pos a) l k = omega signed
+    start (negsuc a) l k = absurd (omega signed)
+
+    by : (x y : ℤ) (h : ℕ) → pos 0 ≤ℤ x → x ≤ℤ y → pos 0 ≤ℤ y → 16384 * P y ≤ 16384 → P y ≡ 2 * h → x ≡ pos 0
+    by (pos a) (pos b) h l k m most even = omega signed
+    by (pos a) (negsuc b) h l k m most even = absurd (omega signed)
+    by (negsuc a) y h l k m most even = absurd (omega signed)

@@ -1,18 +1,17 @@
 -- What passing the tests says: a level that is not refused has planes that planning and evaluating take. Assumes nothing.
 use mathlib.Core.Path.{_≡_, refl, sym, ap, subst, _∙_}
 use mathlib.Core.Bool.{Bool, true, false, _&&_, not, cond}
+use mathlib.Core.Logic.{⊎-elim}
 use Prim.Native.Nat.{ℕ, zero, suc, _≤_, _<_}
 use native.Mathlib.Omega.{arith}
-use lib.Dec.{lit<}
 use lib.IntN.{ℤ, pos, negsuc}
-use lib.Signed.{ltZ, leZ, shrZ, _≤ℤ_}
+use lib.Signed.{leZ, _≤ℤ_}
 use Rattle.whole.specs.Numbers.{liesIn}
-use Rattle.whole.specs.Signed.{signed, holds}
+use Rattle.whole.specs.Signed.{signed, holds, lt-or-ge}
 use Rattle.whole.specs.Truth.{left-of, right-of, both-of, three-of, five-of, lies-low, lies-high}
-use Rattle.whole.specs.Floor.{floor-low, floor-high}
 use Rattle.whole.specs.Interval.{Within}
 use Rattle.limits.specs.Limits.{same, isFrameSide, isPel, areShifts, isPitch, shiftedBy}
-use Rattle.limits.specs.Ranges.{lies, same-is}
+use Rattle.limits.specs.Ranges.{lies, same-is, same-of, shifted-order, shifted-natural}
 use Rattle.limits.specs.Refused.{let-through}
 use Rattle.plane.specs.declared.Place.{Place}
 use Rattle.plane.specs.Places.{limitsHold}
@@ -22,7 +21,7 @@ use Rattle.planes.specs.Planes.{chromaHolds, planesHold, holds3}
 use Rattle.planes.specs.Lying.{Three, three-lie}
 use Rattle.level_places.specs.declared.SuperFrame.{SuperFrame}
 use Rattle.level_places.specs.Levels.{sizeAfter, turnsOf, planeSize, isFinest, fromSource, levelPel, levelOffset, cutAt, placeOf, unshifted, planesOf}
-use Rattle.level_places.specs.Sizes.{size-natural, never-grows, two-or-more}
+use Rattle.level_places.specs.Sizes.{size-natural, never-grows, two-or-more, gone}
 use Rattle.level_places.specs.Areas.{Packed}
 use Rattle.level_places.specs.Asked.{Cuttable}
 use Rattle.levels.specs.declared.Levelled.{Levelled}
@@ -42,24 +41,7 @@ use Rattle.levels.specs.Refusals.{
 }
 use Rattle.levels.specs.Asked.{Near}
 
--- ---- single numbers
-same-self : (z : ℤ) → same z z ≡ true
-same-self z = let e : leZ z z ≡ true = omega signed in rw e
-
-shifted-order : (s : ℤ) {x y : ℤ} → x ≤ℤ y → shiftedBy x s ≤ℤ shiftedBy y s
-shifted-order s {x} {y} h = by (ltZ s (pos 1))
-  where
-    by : (t : Bool) → cond t x (shrZ x 2) ≤ℤ cond t y (shrZ y 2)
-    by true = h
-    by false = omega (signed, floor-low {m = 2} (lit< tt) x, floor-high {m = 2} (lit< tt) y)
-
-shifted-natural : (s : ℤ) {x : ℤ} → pos 0 ≤ℤ x → pos 0 ≤ℤ shiftedBy x s
-shifted-natural s {x} h = by (ltZ s (pos 1))
-  where
-    by : (t : Bool) → pos 0 ≤ℤ cond t x (shrZ x 2)
-    by true = h
-    by false = omega (signed, floor-high {m = 2} (lit< tt) x)
-
+-- ---- pitches
 -- a pitch that is wide enough for a plane is so for a narrower one
 narrower : (width wider pitch : ℤ) → width ≤ℤ wider → isPitch wider pitch ≡ true → isPitch width pitch ≡ true
 narrower width wider pitch h e =
@@ -188,11 +170,11 @@ module _ (f : SuperFrame) (two : holds2 f ≡ true) where
         }
 
     -- ---- the level's number: 0, or some level that is packed
-    no-turns : isFinest f ≡ true → turnsOf (f .level) ≡ 0
-    no-turns e = ap turnsOf (same-is (pos 0) (f .level) e)
+    finest-turns : isFinest f ≡ true → turnsOf (f .level) ≡ 0
+    finest-turns e = ap turnsOf (same-is (pos 0) (f .level) e)
 
-    some-turns : isFinest f ≡ false → 0 < turnsOf (f .level)
-    some-turns e = by (f .level) level-within e
+    later-turns : isFinest f ≡ false → 0 < turnsOf (f .level)
+    later-turns e = by (f .level) level-within e
       where
         by : (z : ℤ) → Within 0 15 z → same (pos 0) z ≡ false → 0 < turnsOf z
         by (pos zero) w d = absurd (holds (sym d))
@@ -200,7 +182,7 @@ module _ (f : SuperFrame) (two : holds2 f ≡ true) where
         by (negsuc n) w d = let low = w .low in absurd (omega arith)
 
     packed-there : fromSource f ≡ false → Packed f (turnsOf (f .level))
-    packed-there e separate = some-turns (by (f .separate) separate e)
+    packed-there e separate = later-turns (by (f .separate) separate e)
       where
         by : (t : Bool) → t ≡ true → (t && isFinest f) ≡ false → isFinest f ≡ false
         by true d k = k
@@ -237,7 +219,7 @@ module _ (f : SuperFrame) (two : holds2 f ≡ true) where
       pitch-holds =
           either-cut (λ p. isPitch (p .width) (p .pitch) ≡ true)
           (λ e.
-          let zero-turns = no-turns (right-of (f .separate) (isFinest f) e) in
+          let zero-turns = finest-turns (right-of (f .separate) (isFinest f) e) in
           subst (λ (n : ℕ). isPitch (shiftedBy (sizeAfter n (f .frame .x)) (shift .x)) source ≡ true) (sym zero-turns)
           (raw .apart (left-of (f .separate) (isFinest f) e)))
           (λ e. raw .packed (turnsOf (f .level)) (packed-there e))
@@ -305,12 +287,22 @@ module _ (f : SuperFrame) (two : holds2 f ≡ true) where
           let e = all-sized .luma .height-is in
           rw e (frame-side (f .frame .y) (framed .height) (turnsOf (f .level)) (λ d. some-side (planes .luma .height) (luma-sides .1) (e ∙ d)))
 
+      -- so levels 14 and 15 are never cut
+      pub level-most : turnsOf (f .level) ≤ 13
+      level-most =
+          let e = all-sized .luma .width-is in
+          let low = lies (pos 2) (pos 16384) (f .frame .x) (framed .width) in
+          ⊎-elim
+          (λ (early : turnsOf (f .level) < 14). omega arith)
+          (λ late. absurd (some-side (planes .luma .width) (luma-sides .0) (e ∙ gone (f .frame .x) natural-width (low .1) (turnsOf (f .level)) late)))
+          (lt-or-ge (turnsOf (f .level)) 14)
+
     chroma-holds : {p : Place} → Sized f (f .shift) p → chromaHolds (planes .luma) (f .shift) p ≡ true
     unfolding chromaHolds
     chroma-holds k =
         rw (all-sized .luma .width-is, all-sized .luma .height-is, k .width-is, k .height-is)
-        (both-of (same-self (shiftedBy (planeSize (f .frame .x) (f .level)) (f .shift .x)))
-        (same-self (shiftedBy (planeSize (f .frame .y) (f .level)) (f .shift .y))))
+        (both-of (same-of {x = shiftedBy (planeSize (f .frame .x) (f .level)) (f .shift .x)} refl)
+        (same-of {x = shiftedBy (planeSize (f .frame .y) (f .level)) (f .shift .y)} refl))
 
     pub planes-hold : planesHold planes (f .shift) ≡ true
     unfolding planesHold

@@ -6,7 +6,7 @@ use native.Mathlib.Omega.{arith}
 use Prim.Native.Nat.{ℕ, zero, suc}
 use lib.Dec.{lit<}
 use lib.IntN.{ℤ, pos, negsuc}
-use lib.Signed.{ltZ, shrZ, _≤ℤ_}
+use lib.Signed.{ltZ, leZ, shrZ, _≤ℤ_}
 use Rattle.whole.specs.Numbers.{liesIn}
 use Rattle.whole.specs.Signed.{signed, abs-is}
 use Rattle.whole.specs.Truth.{left-of, right-of, either-of, lies-low, lies-high}
@@ -23,6 +23,12 @@ lies least greatest z e =
 
 pub same-is : (x y : ℤ) → same x y ≡ true → y ≡ x
 same-is x y e = let low = lies-low x x y e in let high = lies-high x x y e in omega signed
+
+pub same-of : {x y : ℤ} → x ≡ y → same x y ≡ true
+same-of {x} {y} e =
+    let low : leZ x y ≡ true = omega signed in
+    let high : leZ y x ≡ true = omega signed in
+    rw (low, high)
 
 pub pel-cases : (pel : ℤ) → isPel pel ≡ true → (pel ≡ pos 1) ⊎ ((pel ≡ pos 2) ⊎ (pel ≡ pos 4))
 pel-cases pel e =
@@ -87,6 +93,21 @@ block-within width height e =
 -- a number shifted lies where it lay
 pub within-shifted : {l h : ℕ} {z : ℤ} (s : ℤ) → Within l h z → Within l h (shiftedBy z s)
 within-shifted s p = within-either (ltZ s (pos 1)) p (within-shr 2 p)
+
+-- shifted numbers keep their order, and stay on their side of zero
+pub shifted-order : (s : ℤ) {x y : ℤ} → x ≤ℤ y → shiftedBy x s ≤ℤ shiftedBy y s
+shifted-order s {x} {y} h = by (ltZ s (pos 1))
+  where
+    by : (t : Bool) → cond t x (shrZ x 2) ≤ℤ cond t y (shrZ y 2)
+    by true = h
+    by false = omega (signed, floor-low {m = 2} (lit< tt) x, floor-high {m = 2} (lit< tt) y)
+
+pub shifted-natural : (s : ℤ) {x : ℤ} → pos 0 ≤ℤ x → pos 0 ≤ℤ shiftedBy x s
+shifted-natural s {x} h = by (ltZ s (pos 1))
+  where
+    by : (t : Bool) → pos 0 ≤ℤ cond t x (shrZ x 2)
+    by true = h
+    by false = omega (signed, floor-high {m = 2} (lit< tt) x)
 
 -- a frame's side, shifted, is still a side
 pub shifted-least : (z s : ℤ) → pos 2 ≤ℤ z → z ≤ℤ pos 16384 → (pos 1 ≤ℤ shiftedBy z s) × (shiftedBy z s ≤ℤ pos 16384)

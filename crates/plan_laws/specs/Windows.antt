@@ -7,6 +7,7 @@ use lib.Signed.{ltZ, _≤ℤ_}
 use Rattle.limits.specs.Limits.{radiusOf}
 use Rattle.whole.specs.Numbers.{lesserOf, greaterOf}
 use Rattle.whole.specs.Signed.{signed, add-is, diff-is, times-is}
+use Rattle.whole.specs.Truth.{and-false}
 use Rattle.records.specs.declared.Offset.{Offset}
 use Rattle.window.specs.Windows.{isBad, sideOf, mostOf, windowWide, isWide}
 use Rattle.slots.specs.declared.Slots.{Slots}
@@ -55,11 +56,7 @@ window-narrow a place =
     )
 
 neither-wide : (most x y : ℤ) → ltZ most x ≡ false → ltZ most y ≡ false → windowWide most x y ≡ false
-neither-wide most x y p q = rw (p, q) (none (ltZ (pos 0) x && ltZ (pos 0) y))
-  where
-    none : (t : Bool) → (t && false) ≡ false
-    none true = refl
-    none false = refl
+neither-wide most x y p q = rw (p, q) (and-false (ltZ (pos 0) x && ltZ (pos 0) y))
 
 right-false : (a : Bool) {b : Bool} → b ≡ false → (a && b) ≡ false
 right-false true e = e

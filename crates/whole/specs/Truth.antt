@@ -39,6 +39,15 @@ pub six-alike : {a b c d e f A B C D E F : Bool} → a ≡ A → b ≡ B → c �
     (a && b && c && d && e && f) ≡ (A && B && C && D && E && F)
 six-alike p q r s t u = cc
 
+-- a test that holds, or doesn't, behind another
+pub and-true : (t : Bool) → (t && true) ≡ t
+and-true true = refl
+and-true false = refl
+
+pub and-false : (t : Bool) → (t && false) ≡ false
+and-false true = refl
+and-false false = refl
+
 pub both-of : {a b : Bool} → a ≡ true → b ≡ true → (a && b) ≡ true
 both-of p q = cc
 
