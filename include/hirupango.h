@@ -2,8 +2,9 @@
  * library it needs memcpy and memset alone.
  *
  * Every function takes every number and every lent slice, ends, and touches nothing else. It answers 0 where it is done,
- * or the lowest number that applies, and then leaves every lent buffer byte for byte as it was. There is no state: nothing
- * is kept from one call to the next, and any number of threads may call at the same time.
+ * or the lowest number that applies (hirupango_level: the first in its own order), and then leaves every lent buffer byte
+ * for byte as it was. There is no state: nothing is kept from one call to the next, and any number of threads may call at
+ * the same time.
  *
  * A slice is a pointer with the number of its elements. C alone can see to these, and must:
  *   - so many elements can be read there, and written where the pointer isn't const; of no elements the pointer may be null;
@@ -68,9 +69,10 @@ struct hirupango_place {
     int32_t pitch, width, height, pel;
 };
 
-/* A frame of the pyramid, in raw planes: luma, U and V, each bytes and a pitch. The levels of a raw plane are packed one below the other, each as so many
- * rows of pitch bytes: level 0 first, with its pel x pel subplanes, then level 1 and so on. Where level 0 is kept apart, in
- * three raw planes of its own, separate is true, and the packed planes begin with level 1. Handed over by value. */
+/* A frame with its pyramid, in raw planes: luma, U and V, each bytes and a pitch. The levels of a raw plane are packed one
+ * below the other, in rows of pitch bytes: level 0 with its pel x pel subplanes, then level 1, and so on. Where level 0 is
+ * kept apart, in three raw planes of its own, separate is true, and the packed planes begin with level 1. Handed over by
+ * value. */
 struct hirupango_super_frame {
     struct hirupango_sides frame, shift; /* level 0's width and height; how far chroma's sides are luma's shifted right */
     int32_t pel, level;
@@ -83,20 +85,24 @@ struct hirupango_super_frame {
     } source_pitch; /* of the separate source; not looked at where there is none */
 };
 
-/* Where a level's three planes lie. luma, u and v are the packed planes' bytes, the three behind them the separate source's;
- * only their lengths are looked at. On 0 the first 15 numbers of planes are base, pitch, width, height and pel of luma, of U and of V, and
- * the others stay. A host that cut its levels by hand copies them into the struct hirupango_place of its settings or
- * request, and hands the same bytes to hirupango_plan and hirupango_evaluate: the source's at level 0 where separate is
- * true, else the packed ones. They are not refused with 3 there, nor with 2 for a plane's numbers. Each level halves a side
- * to an even number, 2 x (side / 4): 1080, 540, 270, 134. Level 0 has the frame's pel, every other one pel 1.
+/* Where a level's three planes lie. luma, u and v are the packed planes' bytes, the three behind them the separate
+ * source's; only their lengths are looked at, and where separate is false the source's not even that. On 0 the first 15
+ * numbers of planes are base, pitch, width, height and pel of luma, of U and of V, and the others stay.
+ * Level 0 has the frame's pel, every other level pel 1. Each level divides a side by 4, rounding down, and doubles it:
+ * 1080, 540, 270, 134. Areas of two levels of one packed plane share no byte.
+ * A host that cut its levels by hand copies the numbers into the struct hirupango_place of its settings and its request,
+ * and hands the same bytes to hirupango_plan and hirupango_evaluate: the source's at level 0 where separate is true, else
+ * the packed ones. level.pel and pel are luma's. Such planes are never refused with 3 there, nor with 2 for their numbers,
+ * if the reference frame has the source frame's sides, shifts and pel, and the same level is asked of both.
+ * The numbers are asked in this order:
  *   2  a side of the frame not from 2 to 16,384, a pel other than 1, 2 or 4, shifts other than (0,0), (1,0) or (1,1), or a
- *      pitch not from the width of the widest level in its plane to 65,536
+ *      pitch not from the width of the widest level that its raw plane holds to 65,536, whichever level is asked for
  *   9  a level not from 0 to 15, or a side that comes to 0
- *   3  a plane that the level is cut from of over 1,073,741,823 bytes, or of fewer than base + (height - 1) x pitch + width
- *   5  planes_len is under 15
- * They are asked in this order. */
-uint32_t hirupango_level(struct hirupango_super_frame frame, const uint8_t *luma, size_t luma_len, const uint8_t *u, size_t u_len,
-                         const uint8_t *v, size_t v_len, const uint8_t *source_luma, size_t source_luma_len,
+ *   3  a raw plane that the level is cut from of over 1,073,741,823 bytes, or of fewer than base + (height - 1) x pitch +
+ *      width
+ *   5  planes_len is under 15 */
+uint32_t hirupango_level(struct hirupango_super_frame frame, const uint8_t *luma, size_t luma_len, const uint8_t *u,
+                         size_t u_len, const uint8_t *v, size_t v_len, const uint8_t *source_luma, size_t source_luma_len,
                          const uint8_t *source_u, size_t source_u_len, const uint8_t *source_v, size_t source_v_len,
                          int32_t *planes, size_t planes_len);
 
