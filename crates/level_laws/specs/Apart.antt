@@ -28,24 +28,25 @@ use Rattle.level_laws.specs.Asked.{Bytes, answerOf}
 abbrev pub Apart : Place → Place → Type 0
 Apart p q = (byte : ℕ) → Covers p byte → Covers q byte → ⊥
 
-pub record PlanesApart (p q : Planes) : Type 0 where
-  pub luma : Apart (p .luma) (q .luma)
-  pub u : Apart (p .u) (q .u)
-  pub v : Apart (p .v) (q .v)
+-- what holds of luma and luma, U and U, V and V
+pub record Each (Holds : Place → Place → Type 0) (p q : Planes) : Type 0 where
+  pub luma : Holds (p .luma) (q .luma)
+  pub u : Holds (p .u) (q .u)
+  pub v : Holds (p .v) (q .v)
 
 -- ---- a packed level's plane is no wider than its pitch
 module _ (f : SuperFrame) (b : Bytes) where
-  abbrev Taken : ℕ → Type 0
-  Taken n = Accepted (atLevel f n) (length (b .luma)) (length (b .u)) (length (b .v)) (length (b .sourceLuma)) (length (b .sourceU)) (length (b .sourceV))
+  abbrev AcceptedAt : ℕ → Type 0
+  AcceptedAt n = Accepted (atLevel f n) (length (b .luma)) (length (b .u)) (length (b .v)) (length (b .sourceLuma)) (length (b .sourceU)) (length (b .sourceV))
 
-  wide : (n : ℕ) (k : Taken n) (shift : Sides) (pitch source : ℤ) → Raw (atLevel f n) (shift .x) pitch source → Packed f n →
+  wide : (n : ℕ) (k : AcceptedAt n) (shift : Sides) (pitch source : ℤ) → Raw (atLevel f n) (shift .x) pitch source → Packed f n →
       placeOf (atLevel f n) shift pitch source .width ≤ℤ pitch
   wide n k shift pitch source raw packed =
       let p = placeOf (atLevel f n) shift pitch source in
       let held = lies-low (p .width) (pos 65536) (p .pitch) (pitch-holds (atLevel f n) (k .two) (k .ranged) shift pitch source raw) in
       subst (λ (z : ℤ). p .width ≤ℤ z) (packed-lies f shift pitch n source packed .pitch-is) (omega signed)
 
-  module _ (l m : ℕ) (k-l : Taken l) (k-m : Taken m) (packed-l : Packed f l) (packed-m : Packed f m) (other : l ≡ m → ⊥) where
+  module _ (l m : ℕ) (k-l : AcceptedAt l) (k-m : AcceptedAt m) (packed-l : Packed f l) (packed-m : Packed f m) (other : l ≡ m → ⊥) where
     plane-apart : (shift : Sides) (pitch source : ℤ) → Raw (atLevel f l) (shift .x) pitch source → Raw (atLevel f m) (shift .x) pitch source →
         Apart (placeOf (atLevel f l) shift pitch source) (placeOf (atLevel f m) shift pitch source)
     plane-apart shift pitch source raw-l raw-m byte =
@@ -53,7 +54,7 @@ module _ (f : SuperFrame) (b : Bytes) where
         (packed-lies f shift pitch l source packed-l) (packed-lies f shift pitch m source packed-m)
         (wide l k-l shift pitch source raw-l packed-l) (wide m k-m shift pitch source raw-m packed-m)
 
-    planes-apart : PlanesApart (planesOf (atLevel f l)) (planesOf (atLevel f m))
+    planes-apart : Each Apart (planesOf (atLevel f l)) (planesOf (atLevel f m))
     unfolding planesOf
     planes-apart =
         let at-l = raw-planes (atLevel f l) (k-l .two) in
@@ -66,18 +67,18 @@ module _ (f : SuperFrame) (b : Bytes) where
 
 -- ---- samples
 -- a place in pel steps that lies inside a plane
-pub record Inside (p : Place) (x y : ℕ) : Type 0 where
+pub record InPlane (p : Place) (x y : ℕ) : Type 0 where
   pub across : x < natAbs (p .pel) * natAbs (p .width)
   pub down : y < natAbs (p .pel) * natAbs (p .height)
 
 abbrev pub SamplesApart : Place → Place → Type 0
-SamplesApart p q = (x y x′ y′ : ℕ) → Inside p x y → Inside q x′ y′ → subpelOf p (pos x) (pos y) ≡ subpelOf q (pos x′) (pos y′) → ⊥
+SamplesApart p q = (x y x′ y′ : ℕ) → InPlane p x y → InPlane q x′ y′ → subpelOf p (pos x) (pos y) ≡ subpelOf q (pos x′) (pos y′) → ⊥
 
 natural : (z : ℤ) → pos 0 ≤ℤ z → z ≡ pos (natAbs z)
 natural (pos n) h = refl
 natural (negsuc n) h = absurd (omega signed)
 
-inside-covered : {p : Place} {width height : ℤ} → Lies p width height → (x y : ℕ) → Inside p x y →
+inside-covered : {p : Place} {width height : ℤ} → Lies p width height → (x y : ℕ) → InPlane p x y →
     (byte : ℕ) × ((subpelOf p (pos x) (pos y) ≡ pos byte) × Covers p byte)
 inside-covered {p} {width} {height} lies x y inside =
     let pel-in = pel-within (p .pel) (lies .placed .pel-in) in
@@ -106,18 +107,19 @@ cut-three f b n e =
 
 module _ (f : SuperFrame) (b : Bytes) (l m : ℕ) {p q : Planes} (first : answerOf (atLevel f l) b ≡ Cut p) (second : answerOf (atLevel f m) b ≡ Cut q)
     (packed-l : Packed f l) (packed-m : Packed f m) (other : l ≡ m → ⊥) where
-  pub levels-apart : PlanesApart p q
+  pub levels-apart : Each Apart p q
   levels-apart =
       let at-l = cut-means (atLevel f l) _ _ _ _ _ _ first in
       let at-m = cut-means (atLevel f m) _ _ _ _ _ _ second in
       rw (at-l .1, at-m .1) (planes-apart f b l m (at-l .0) (at-m .0) packed-l packed-m other)
 
   -- no sample of the one is a sample of the other: x and y count in pel steps from a plane's own corner, and stay inside it
-  pub luma-samples-apart : SamplesApart (p .luma) (q .luma)
-  luma-samples-apart = samples-apart (cut-three f b l first .luma) (cut-three f b m second .luma) (levels-apart .luma)
-
-  pub u-samples-apart : SamplesApart (p .u) (q .u)
-  u-samples-apart = samples-apart (cut-three f b l first .u) (cut-three f b m second .u) (levels-apart .u)
-
-  pub v-samples-apart : SamplesApart (p .v) (q .v)
-  v-samples-apart = samples-apart (cut-three f b l first .v) (cut-three f b m second .v) (levels-apart .v)
+  pub samples-lie-apart : Each SamplesApart p q
+  samples-lie-apart =
+      let a = cut-three f b l first in
+      let c = cut-three f b m second in
+      record {
+        luma = samples-apart (a .luma) (c .luma) (levels-apart .luma);
+        u = samples-apart (a .u) (c .u) (levels-apart .u);
+        v = samples-apart (a .v) (c .v) (levels-apart .v);
+      }

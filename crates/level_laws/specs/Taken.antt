@@ -1,6 +1,6 @@
 -- 02, "One": "Demands 1 to 3 read on, with planes so made." Planes that `level` answers are taken by planning and evaluating: 3 is never given for them, and 2
 -- never for their numbers; and where a plan on them is done, so are evaluating and finishing. So every theorem of the pass speaks of them. Assumes nothing.
-use mathlib.Core.Path.{_≡_, refl, sym, ap, subst, _∙_}
+use mathlib.Core.Path.{_≡_, sym, ap, subst, _∙_}
 use mathlib.Core.Bool.{Bool, true, false, _&&_, cond}
 use mathlib.Core.List.{List}
 use Prim.Native.Nat.{ℕ, _*_, _≤_}
@@ -18,9 +18,9 @@ use Rattle.planes.specs.declared.Sides.{Sides}
 use Rattle.planes.specs.declared.Planes.{Planes}
 use Rattle.planes.specs.Planes.{planesHold, holds3}
 use Rattle.level_places.specs.declared.SuperFrame.{SuperFrame}
-use Rattle.level_places.specs.Levels.{planeSize, isFinest, levelPel, unshifted, planesOf}
+use Rattle.level_places.specs.Levels.{planeSize, levelPel, unshifted, planesOf}
 use Rattle.levels.specs.declared.Levelled.the-variants.{Cut}
-use Rattle.levels.specs.Accepted.{Sized, Accepted, framed, all-sized, wide, tall, planes-hold, kept-by, cut-means}
+use Rattle.levels.specs.Accepted.{Sized, SizedThree, Accepted, framed, pel-holds, all-sized, wide, tall, planes-hold, kept-by, cut-means}
 use Rattle.block.specs.declared.Settings.{Settings}
 use Rattle.planning.specs.Refusals.{blockCount, axisHolds, holds2, refusalOf}
 use Rattle.planning.specs.Table.{given-exactly}
@@ -46,30 +46,21 @@ pub record Good (f : SuperFrame) (b : Bytes) (p : Planes) : Type 0 where
   pub shifts : areShifts (f .shift .x) (f .shift .y) ≡ true
   pub planes : planesHold p (f .shift) ≡ true
   pub long : holds3 p (length (lumaOf f b)) (length (uOf f b)) (length (vOf f b)) ≡ true
-  pub luma : Sized f unshifted (p .luma)
-  pub u : Sized f (f .shift) (p .u)
-  pub v : Sized f (f .shift) (p .v)
+  pub sizes : SizedThree f p
 
 module _ (f : SuperFrame) (b : Bytes) where
   good-of : Accepted f (length (b .luma)) (length (b .u)) (length (b .v)) (length (b .sourceLuma)) (length (b .sourceU)) (length (b .sourceV)) →
       Good f b (planesOf f)
   good-of k =
-      let sizes = all-sized f (k .two) (k .ranged) in
       record {
         wide = wide f (k .two) (k .ranged) (k .sided);
         tall = tall f (k .two) (k .ranged) (k .sided);
-        pel = pel-good (isFinest f);
+        pel = pel-holds f (k .two);
         shifts = framed f (k .two) .shifts;
         planes = planes-hold f (k .two) (k .ranged);
         long = kept-by f _ _ _ _ _ _ k _ (λ e h. rw e h) (λ e h. rw e h);
-        luma = sizes .luma;
-        u = sizes .u;
-        v = sizes .v;
+        sizes = all-sized f (k .two) (k .ranged);
       }
-    where
-      pel-good : (t : Bool) → isPel (cond t (f .pel) (pos 1)) ≡ true
-      pel-good true = framed f (k .two) .pel
-      pel-good false = refl
 
   pub good : {p : Planes} → answerOf f b ≡ Cut p → Good f b p
   good e = let means = cut-means f _ _ _ _ _ _ e in subst (Good f b) (sym (means .1)) (good-of (means .0))
@@ -132,8 +123,8 @@ module _ (f g : SuperFrame) (alike : Alike f g) where
   pub references-hold : (b c : Bytes) {p r : Planes} → answerOf f b ≡ Cut p → answerOf g c ≡ Cut r → evaluation.referencesHold (levelPel f) p r ≡ true
   unfolding evaluation.referencesHold
   references-hold b c {p} {r} source reference =
-      let k = good f b source in
-      let h = good g c reference in
+      let k = good f b source .sizes in
+      let h = good g c reference .sizes in
       let u : Sized g (f .shift) (r .u) = rw (alike .shift) (h .u) in
       let v : Sized g (f .shift) (r .v) = rw (alike .shift) (h .v) in
       both-of (both-of (reference-holds unshifted (k .luma) (h .luma)) (reference-holds (f .shift) (k .u) u)) (reference-holds (f .shift) (k .v) v)

@@ -3,11 +3,11 @@ use mathlib.Core.Path.{_≡_, refl, ap, _∙_}
 use mathlib.Core.Bool.{Bool, true, false, cond}
 use mathlib.Core.Logic.{⊎-elim}
 use Prim.Native.Nat.{ℕ, zero, suc, _+_, _*_, _/_, _≤_, _<_}
-use native.Mathlib.Nat.{mul-le-mul-left}
+use native.Mathlib.Nat.{mul-le-mul-left, mul-le-mul-right, div-add-mod'}
 use native.Mathlib.Numerals.{add-one}
 use native.Mathlib.Omega.{arith}
 use lib.IntN.{ℤ, pos, negsuc, _*ℤ_, natAbs}
-use lib.Dec.{lit<}
+use lib.Dec.{T, leb, leb→le, lit<}
 use lib.Signed.{quotZ, shrZ, ltZ, _≤ℤ_}
 use mir.Syntax.{w32}
 use mir.Val.{SFits}
@@ -16,31 +16,47 @@ use Rattle.whole.specs.Floor.{floor-high, quot-P, quot-N}
 use Rattle.limits.specs.Limits.{shiftedBy}
 use Rattle.level_places.specs.Levels.{sizeAfter, turnsOf}
 
--- ---- one level: how far a number lies above and below zero, divided by 4 and doubled
-twice-P : (x : ℤ) → P (pos 2 *ℤ x) ≡ 2 * P x
-twice-P (pos n) = refl
-twice-P (negsuc n) = neg-P (pos (2 * suc n))
+-- ---- a product with a natural number: how far it lies above and below zero
+times-P : (k : ℕ) (x : ℤ) → P (pos k *ℤ x) ≡ k * P x
+times-P k (pos n) = refl
+times-P k (negsuc n) = neg-P (pos (k * suc n)) ∙ omega arith
 
-twice-N : (x : ℤ) → N (pos 2 *ℤ x) ≡ 2 * N x
-twice-N (pos n) = refl
-twice-N (negsuc n) = neg-N (pos (2 * suc n))
+times-N : (k : ℕ) (x : ℤ) → N (pos k *ℤ x) ≡ k * N x
+times-N k (pos n) = omega arith
+times-N k (negsuc n) = neg-N (pos (k * suc n))
 
+-- k parts of the m that a number is divided into are no more than the number: `part-fits 2 4 tt f`
+pub part-fits : {z : ℤ} (k m : ℕ) → T (leb k m) → SFits w32 z → SFits w32 (pos k *ℤ quotZ z (pos m))
+part-fits {z} k m t f =
+    let above = part (P z) in
+    let below = part (N z) in
+    let q = quotZ z (pos m) in
+    let p : P (pos k *ℤ q) ≡ k * (P z / m) = times-P k q ∙ ap (λ (n : ℕ). k * n) (quot-P z m) in
+    let n : N (pos k *ℤ q) ≡ k * (N z / m) = times-N k q ∙ ap (λ (n : ℕ). k * n) (quot-N z m) in
+    one-side z above below p n (range f)
+  where
+    part : (a : ℕ) → k * (a / m) ≤ a
+    part a = let l : k * (a / m) ≤ m * (a / m) = mul-le-mul-right (a / m) (leb→le k m t) in omega (arith, div-add-mod' a m)
+
+    -- one of the two is 0, so that each bound is kept
+    one-side : (x : ℤ) {y : ℤ} {a b : ℕ} → a ≤ P x → b ≤ N x → P y ≡ a → N y ≡ b → (P x < 2147483648 + N x) × (N x ≤ 2147483648 + P x) → SFits w32 y
+    one-side (pos u) l k p n r = fit (omega arith) (omega arith)
+    one-side (negsuc u) l k p n r = fit (omega arith) (omega arith)
+
+-- ---- one level
 abbrev pub reduced : ℤ → ℤ
 reduced z = pos 2 *ℤ quotZ z (pos 4)
 
 pub reduced-P : (z : ℤ) → P (reduced z) ≡ 2 * (P z / 4)
-reduced-P z = twice-P (quotZ z (pos 4)) ∙ ap (λ (n : ℕ). 2 * n) (quot-P z 4)
+reduced-P z = times-P 2 (quotZ z (pos 4)) ∙ ap (λ (n : ℕ). 2 * n) (quot-P z 4)
 
 pub reduced-N : (z : ℤ) → N (reduced z) ≡ 2 * (N z / 4)
-reduced-N z = twice-N (quotZ z (pos 4)) ∙ ap (λ (n : ℕ). 2 * n) (quot-N z 4)
-
-pub reduced-fits : {z : ℤ} → SFits w32 z → SFits w32 (reduced z)
-reduced-fits {z} f = fit (omega (arith, range f, reduced-P z, reduced-N z)) (omega (arith, range f, reduced-P z, reduced-N z))
+reduced-N z = times-N 2 (quotZ z (pos 4)) ∙ ap (λ (n : ℕ). 2 * n) (quot-N z 4)
 
 pub size-fits : {z : ℤ} (n : ℕ) → SFits w32 z → SFits w32 (sizeAfter n z)
 unfolding sizeAfter
 size-fits zero f = f
-size-fits (suc n) f = reduced-fits (size-fits n f)
+size-fits (suc n) f = part-fits 2 4 tt (size-fits n f)
 
 pub size-more : (n : ℕ) (z : ℤ) → sizeAfter (n + 1) z ≡ reduced (sizeAfter n z)
 unfolding sizeAfter

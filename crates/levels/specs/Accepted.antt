@@ -5,13 +5,13 @@ use mathlib.Core.Logic.{⊎-elim}
 use Prim.Native.Nat.{ℕ, zero, suc, _≤_, _<_}
 use native.Mathlib.Omega.{arith}
 use lib.IntN.{ℤ, pos, negsuc}
-use lib.Signed.{leZ, _≤ℤ_}
+use lib.Signed.{_≤ℤ_}
 use Rattle.whole.specs.Numbers.{liesIn}
 use Rattle.whole.specs.Signed.{signed, holds, lt-or-ge}
 use Rattle.whole.specs.Truth.{left-of, right-of, both-of, three-of, five-of, lies-low, lies-high}
 use Rattle.whole.specs.Interval.{Within}
 use Rattle.limits.specs.Limits.{same, isFrameSide, isPel, areShifts, isPitch, shiftedBy}
-use Rattle.limits.specs.Ranges.{lies, same-is, same-of, shifted-order, shifted-natural}
+use Rattle.limits.specs.Ranges.{lies, lies-of, same-is, same-of, shifted-order, shifted-natural}
 use Rattle.limits.specs.Refused.{let-through}
 use Rattle.plane.specs.declared.Place.{Place}
 use Rattle.plane.specs.Places.{limitsHold}
@@ -39,17 +39,12 @@ use Rattle.levels.specs.Refusals.{
   levelAnswer,
   levelNumber,
 }
-use Rattle.levels.specs.Asked.{Near}
+use Rattle.levels.specs.Asked.{BasesFit}
 
 -- ---- pitches
 -- a pitch that is wide enough for a plane is so for a narrower one
 narrower : (width wider pitch : ℤ) → width ≤ℤ wider → isPitch wider pitch ≡ true → isPitch width pitch ≡ true
-narrower width wider pitch h e =
-    let low = lies-low wider (pos 65536) pitch e in
-    let high = lies-high wider (pos 65536) pitch e in
-    let a : leZ width pitch ≡ true = omega signed in
-    let b : leZ pitch (pos 65536) ≡ true = omega signed in
-    rw (a, b)
+narrower width wider pitch h e = let l = lies wider (pos 65536) pitch e in let low = l .0 in lies-of {least = width} {z = pitch} (omega signed) (l .1)
 
 pitch-within : (width pitch : ℤ) → pos 0 ≤ℤ width → isPitch width pitch ≡ true → Within 0 65536 pitch
 pitch-within width pitch h e = let low = lies-low width (pos 65536) pitch e in let high = lies-high width (pos 65536) pitch e in omega signed
@@ -60,6 +55,11 @@ module _ (f : SuperFrame) where
     pub packed : (n : ℕ) → Packed f n → isPitch (shiftedBy (sizeAfter n (f .frame .x)) shift) pitch ≡ true
     pub apart : f .separate ≡ true → isPitch (shiftedBy (f .frame .x) shift) source ≡ true
     pub within : Within 0 65536 pitch
+
+  pub record Raws : Type 0 where
+    pub luma : Raw (pos 0) (f .pitch .luma) (f .«source_pitch» .luma)
+    pub u : Raw (f .shift .x) (f .pitch .u) (f .«source_pitch» .u)
+    pub v : Raw (f .shift .x) (f .pitch .v) (f .«source_pitch» .v)
 
   -- the widest level of a packed plane
   abbrev widest : Bool → ℕ
@@ -83,11 +83,6 @@ module _ (f : SuperFrame) where
         first : (t : Bool) → f .separate ≡ t → (n : ℕ) → Packed f n → widest t ≤ n
         first true e n packed = let some = packed e in omega arith
         first false e n packed = omega arith
-
-    pub record Raws : Type 0 where
-      pub luma : Raw (pos 0) (f .pitch .luma) (f .«source_pitch» .luma)
-      pub u : Raw (f .shift .x) (f .pitch .u) (f .«source_pitch» .u)
-      pub v : Raw (f .shift .x) (f .pitch .v) (f .«source_pitch» .v)
 
     raws : (t : Bool) → f .separate ≡ t → pitchesHold (sizeAfter (widest t) (f .frame .x)) (f .shift) (f .pitch) ≡ true →
         (t ≡ true → pitchesHold (f .frame .x) (f .shift) (f .«source_pitch») ≡ true) → Raws
@@ -126,16 +121,21 @@ pub record Sized (f : SuperFrame) (shift : Sides) (p : Place) : Type 0 where
   pub pel-is : p .pel ≡ levelPel f
   pub limits : limitsHold p ≡ true
 
--- ---- what 2 leaves, before any plane is cut
-module _ (f : SuperFrame) (two : holds2 f ≡ true) where
-  pub record Framed : Type 0 where
-    pub width : isFrameSide (f .frame .x) ≡ true
-    pub height : isFrameSide (f .frame .y) ≡ true
-    pub pel : isPel (f .pel) ≡ true
-    pub shifts : areShifts (f .shift .x) (f .shift .y) ≡ true
-    pub pitches : rawPitchesHold f ≡ true
+pub record SizedThree (f : SuperFrame) (p : Planes) : Type 0 where
+  pub luma : Sized f unshifted (p .luma)
+  pub u : Sized f (f .shift) (p .u)
+  pub v : Sized f (f .shift) (p .v)
 
-  pub framed : Framed
+-- ---- what 2 leaves, before any plane is cut
+pub record Framed (f : SuperFrame) : Type 0 where
+  pub width : isFrameSide (f .frame .x) ≡ true
+  pub height : isFrameSide (f .frame .y) ≡ true
+  pub pel : isPel (f .pel) ≡ true
+  pub shifts : areShifts (f .shift .x) (f .shift .y) ≡ true
+  pub pitches : rawPitchesHold f ≡ true
+
+module _ (f : SuperFrame) (two : holds2 f ≡ true) where
+  pub framed : Framed f
   unfolding holds2
   framed =
       let t = five-of (isFrameSide (f .frame .x)) (isFrameSide (f .frame .y)) (isPel (f .pel)) (areShifts (f .shift .x) (f .shift .y)) (rawPitchesHold f) two in
@@ -150,7 +150,14 @@ module _ (f : SuperFrame) (two : holds2 f ≡ true) where
   pub natural-height : pos 0 ≤ℤ f .frame .y
   natural-height = side-natural (f .frame .y) (framed .height)
 
-  pub raw-planes : Raws f natural-width
+  pub pel-holds : isPel (levelPel f) ≡ true
+  pel-holds = by (isFinest f)
+    where
+      by : (t : Bool) → isPel (cond t (f .pel) (pos 1)) ≡ true
+      by true = framed .pel
+      by false = refl
+
+  pub raw-planes : Raws f
   raw-planes = all-raw f natural-width (framed .pitches)
 
   module _ (ranged : liesIn (pos 0) (pos 15) (f .level) ≡ true) where
@@ -224,26 +231,16 @@ module _ (f : SuperFrame) (two : holds2 f ≡ true) where
           (raw .apart (left-of (f .separate) (isFinest f) e)))
           (λ e. raw .packed (turnsOf (f .level)) (packed-there e))
 
-      pel-holds : isPel (place .pel) ≡ true
-      pel-holds = rw pel-is (by (isFinest f))
-        where
-          by : (t : Bool) → isPel (cond t (f .pel) (pos 1)) ≡ true
-          by true = framed .pel
-          by false = refl
-
       pub sized : Sized f shift place
-      sized = record { width-is = width-is; height-is = height-is; pel-is = pel-is; limits = both-of pel-holds pitch-holds }
+      sized =
+          let pel : isPel (place .pel) ≡ true = rw pel-is pel-holds in
+          record { width-is = width-is; height-is = height-is; pel-is = pel-is; limits = both-of pel pitch-holds }
 
     -- ---- the three of them
     abbrev planes : Planes
     planes = planesOf f
 
-    pub record SizedThree (p : Planes) : Type 0 where
-      pub luma : Sized f unshifted (p .luma)
-      pub u : Sized f (f .shift) (p .u)
-      pub v : Sized f (f .shift) (p .v)
-
-    pub all-sized : SizedThree planes
+    pub all-sized : SizedThree f planes
     unfolding planesOf
     all-sized =
         record {
@@ -265,9 +262,7 @@ module _ (f : SuperFrame) (two : holds2 f ≡ true) where
           let high = lies (pos 2) (pos 16384) z e .1 in
           let least = two-or-more n z (side-natural z e) some in
           let falls = never-grows z (side-natural z e) 0 (suc n) (omega arith) in
-          let a : leZ (pos 2) (sizeAfter (suc n) z) ≡ true = omega signed in
-          let b : leZ (sizeAfter (suc n) z) (pos 16384) ≡ true = omega signed in
-          rw (a, b)
+          lies-of {greatest = pos 16384} {z = sizeAfter (suc n) z} least (omega signed)
 
       luma-sides : (not (same (pos 0) (planes .luma .width)) ≡ true) × (not (same (pos 0) (planes .luma .height)) ≡ true)
       unfolding allHaveSides hasSides
@@ -363,5 +358,5 @@ module _ (f : SuperFrame) (luma u v sourceLuma sourceU sourceV : ℕ) where
           three-lie (planesOf f) (f .shift) a b c (wide f (k .two) (k .ranged) (k .sided)) (tall f (k .two) (k .ranged) (k .sided))
           (planes-hold f (k .two) (k .ranged))
 
-  pub near : Accepted → Near (planesOf f)
-  near k = let t = three k in record { luma = t .luma .placed .base-in; u = t .u .placed .base-in; v = t .v .placed .base-in }
+  pub bases-fit : Accepted → BasesFit (planesOf f)
+  bases-fit k = let t = three k in record { luma = t .luma .placed .base-in; u = t .u .placed .base-in; v = t .v .placed .base-in }

@@ -2,7 +2,7 @@
 use Prim.Native.Nat.{_≤_}
 use Rattle.planes.specs.declared.Planes.{Planes}
 
-pub record Near (p : Planes) : Type 0 where
+pub record BasesFit (p : Planes) : Type 0 where
   pub luma : p .luma .base ≤ 2147483647
   pub u : p .u .base ≤ 2147483647
   pub v : p .v .base ≤ 2147483647

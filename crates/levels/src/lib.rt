@@ -12,7 +12,7 @@ ghost use lib.ListN.{length, drop};
 ghost use lib.Seq.{paste};
 ghost use Rattle.levels.specs.Refusals.{pitchesHold, rawPitchesHold, holds2, hasSides, allHaveSides, lengthsKept, levelAnswer, levelNumber};
 ghost use Rattle.levels.specs.Numbers.{numbersPerPlace, placeNumbers, numbersPerLevel, planesNumbers, givenNumber, givenNumbers};
-ghost use Rattle.levels.specs.Asked.{Near};
+ghost use Rattle.levels.specs.Asked.{BasesFit};
 
 pub enum Levelled {
     Cut(Planes),
@@ -154,7 +154,7 @@ fn put_place(numbers: &mut [i32], at: usize, place: Place)
 // Luma's five numbers, U's and V's.
 fn put_planes(numbers: &mut [i32], planes: Planes)
     requires { ⌜ numbersPerLevel ≤ length (now numbers) ⌝ }
-    requires { ⌜ Near planes ⌝ }
+    requires { ⌜ BasesFit planes ⌝ }
     ensures { λ _. ⌜ now (numbers .exit) ≡ planesNumbers planes ++ drop numbersPerLevel (now (numbers .entry)) ⌝ }
 {
     let luma = planes.luma;

@@ -24,11 +24,15 @@ lies least greatest z e =
 pub same-is : (x y : ℤ) → same x y ≡ true → y ≡ x
 same-is x y e = let low = lies-low x x y e in let high = lies-high x x y e in omega signed
 
+-- and back
+pub lies-of : {least greatest z : ℤ} → least ≤ℤ z → z ≤ℤ greatest → liesIn least greatest z ≡ true
+lies-of {least} {greatest} {z} low high =
+    let a : leZ least z ≡ true = omega signed in
+    let b : leZ z greatest ≡ true = omega signed in
+    rw (a, b)
+
 pub same-of : {x y : ℤ} → x ≡ y → same x y ≡ true
-same-of {x} {y} e =
-    let low : leZ x y ≡ true = omega signed in
-    let high : leZ y x ≡ true = omega signed in
-    rw (low, high)
+same-of {x} {y} e = lies-of {least = x} {greatest = x} {z = y} (omega signed) (omega signed)
 
 pub pel-cases : (pel : ℤ) → isPel pel ≡ true → (pel ≡ pos 1) ⊎ ((pel ≡ pos 2) ⊎ (pel ≡ pos 4))
 pel-cases pel e =

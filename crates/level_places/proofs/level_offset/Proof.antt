@@ -46,15 +46,23 @@ mul-result c =
 product : {a b p A B P : ℕ} → a ≡ A → b ≡ B → p ≡ P → (a + b) * p ≡ (A + B) * P
 product e f g = cc
 
+-- the levels between are those in front of this one
+between : (c : tie.After-reduced-rows) → let a = c .before .before .before .before .before .before .before .args in
+    c .reduced-rows .result ≡ reducedRows (a .frame .frame .y) (a .shift) (turnsOf (a .frame .level) - 1)
+between c =
+    let s = c .before .before .before .before .before .before .before in
+    let shift = s .fits .shift in
+    let height : SFits w32 (s .args .frame .frame .y) = fits (s .pre .0 .height-in) tt tt in
+    let n = turns (c .before .before .before .before .before) in
+    simp toZ-ofZ at (c .reduced-rows .ensures .0) ∙ ap (λ (k : ℕ). reducedRows (s .args .frame .frame .y) (s .args .shift) (k - 1)) n
+
 returns-2 : tie.Need-returns-2
 returns-2 c =
     let s = c .before .before .before .before .before .before .before .before in
     let f = s .args .frame in
     let shift = s .fits .shift in
-    let height : SFits w32 (f .frame .y) = fits (s .pre .0 .height-in) tt tt in
     let n = turns (c .before .before .before .before .before .before) in
-    product (simp toZ-ofZ at (c .before .before .finest-rows .ensures .0))
-    (simp toZ-ofZ at (c .before .reduced-rows .ensures .0) ∙ ap (λ (k : ℕ). reducedRows (f .frame .y) (s .args .shift) (k - 1)) n) (pitch-is c)
+    product (simp toZ-ofZ at (c .before .before .finest-rows .ensures .0)) (between (c .before)) (pitch-is c)
     ∙ ap (λ (rows : ℕ). rows * natAbs (s .args .pitch)) (some-before f (s .args .shift) (s .pre .0 .level-in) (λ e. c .before .before .before .before .before .if1 .left (n ∙ e)))
 
 pub level-offset-spec : {M : Type 1} → statement M

@@ -9,7 +9,7 @@ use mir.Val.{SFits, toZ}
 use mir.Facts.{toZ-ofZ}
 use Rattle.whole.specs.Interval.{Is, within-32, ask-quot, is-quot}
 use Rattle.level_places.specs.Levels.{sizeAfter}
-use Rattle.level_places.specs.Sizes.{reduced, reduced-fits, size-fits, size-more}
+use Rattle.level_places.specs.Sizes.{reduced, part-fits, size-fits, size-more}
 use Rattle.level_places.proofs.size_after.Statement.{statement}
 use Rattle.level_places.proofs.size_after.Tie as tie
 
@@ -34,10 +34,10 @@ read : (c : tie.In-loop Inv-loop μ-loop) → let s = toZ w32 (c .before .loop .
 read c = record { same = refl; lies = within-32 (in-32 c) }
 
 div-s : tie.Need-div-s Inv-loop μ-loop
-div-s c = (lit< tt, ask-quot 4 (read c) tt tt)
+div-s c = (lit< tt, ask-quot _ (read c) tt tt)
 
 mul-s : tie.Need-mul-s Inv-loop μ-loop
-mul-s c = rw (is-quot 4 (read c) tt tt .same) (reduced-fits (in-32 c))
+mul-s c = rw (is-quot _ (read c) tt tt .same) (part-fits _ _ tt (in-32 c))
 
 loop-again : tie.Need-loop-again Inv-loop μ-loop
 loop-again c =

@@ -4,8 +4,8 @@ use mathlib.Core.Path.{_≡_, sym, ap, subst, _∙_}
 use lib.ListN.{length}
 use Rattle.levels.specs.declared.Levelled.{Levelled}
 use Rattle.levels.specs.Refusals.{levelNumber, levelAnswer}
-use Rattle.levels.specs.Asked.{Near}
-use Rattle.levels.specs.Accepted.{cut-means, near}
+use Rattle.levels.specs.Asked.{BasesFit}
+use Rattle.levels.specs.Accepted.{cut-means, bases-fit}
 use Rattle.levels.specs.Given.{given-refused, given-5, given-0}
 use Rattle.levels.proofs.level_numbers.Statement.{statement}
 use Rattle.levels.proofs.level_numbers.Tie as tie
@@ -41,7 +41,7 @@ put-planes-requires c κs =
     let a = start k .args in
     let means = cut-means (a .frame) (length (a .luma .now)) (length (a .u .now)) (length (a .v .now)) (length (a .source-luma .now)) (length (a .source-u .now)) (length (a .source-v .now)) (is k (c .before .before .before .answer .given .1)) in (
       c .before .if1 .left,
-      subst Near (sym (means .1)) (near (a .frame) (length (a .luma .now)) (length (a .u .now)) (length (a .v .now)) (length (a .source-luma .now)) (length (a .source-u .now)) (length (a .source-v .now)) (means .0)),
+      subst BasesFit (sym (means .1)) (bases-fit (a .frame) (length (a .luma .now)) (length (a .u .now)) (length (a .v .now)) (length (a .source-luma .now)) (length (a .source-u .now)) (length (a .source-v .now)) (means .0)),
     )
 
 returns-3 : tie.Need-returns-3
