@@ -24,14 +24,15 @@ use Rattle.levels.specs.Accepted.{Sized, SizedThree, Accepted, framed, pel-hold
 use Rattle.block.specs.declared.Settings.{Settings}
 use Rattle.planning.specs.Refusals.{blockCount, axisHolds, holds2, refusalOf}
 use Rattle.planning.specs.Table.{given-exactly}
-use Rattle.planning.specs.Planned.{planRecords}
+use Rattle.planning.specs.Planned.{madeOf, planRecords, planIndices}
 use Rattle.evaluation.specs.declared.Request.{Request}
 use Rattle.evaluation.specs.Refusals as evaluation
 use Rattle.evaluation.specs.Table as table
-use Rattle.evaluation.specs.Evaluated.{evaluateAnswer}
-use Rattle.whole_pass.specs.Pass.{requestOf}
+use Rattle.evaluation.specs.Evaluated.{evaluateAnswer, evaluateBests}
+use Rattle.finishing.specs.Finish.{finishAnswer, finishVectors}
+use Rattle.whole_pass.specs.Pass.{requestOf, passVectors}
 use Rattle.whole_pass.specs.Done.{Referred}
-use Rattle.whole_pass.specs.ThreeCalls.{evaluated}
+use Rattle.whole_pass.specs.ThreeCalls.{evaluated, finished, vectors-are}
 use Rattle.level_laws.specs.Asked.{Bytes, answerOf, lumaOf, uOf, vOf}
 
 -- a number is not given where its test says no
@@ -171,9 +172,35 @@ module _ (f g : SuperFrame) (alike : Alike f g) (b c : Bytes) (s : Settings) (re
     abbrev n : ℕ
     n = blockCount (s .grid)
 
-    pub evaluating-done : evaluateAnswer (requestOf s measure pnew reference)
-        (take (wordsPerRecord * n) (planRecords s order vectors (length (lumaOf f b)) (length (uOf f b)) (length (vOf f b)) records (length indices)))
-        (lumaOf f b) (uOf f b) (vOf f b) (lumaOf g c) (uOf g c) (vOf g c) (length bests) ≡ 0
+    abbrev q : Request
+    q = requestOf s measure pnew reference
+
+    -- what planning leaves in the records and the indices, and evaluating in the bests
+    abbrev written : List ℤ
+    written = planRecords s order vectors (length (lumaOf f b)) (length (uOf f b)) (length (vOf f b)) records (length indices)
+
+    abbrev named : List ℤ
+    named = planIndices s order vectors (length (lumaOf f b)) (length (uOf f b)) (length (vOf f b)) (length records) indices
+
+    abbrev found : List ℤ
+    found = evaluateBests q (take (wordsPerRecord * n) written) (lumaOf f b) (uOf f b) (vOf f b) (lumaOf g c) (uOf g c) (vOf g c) bests
+
+    pub evaluating-done : evaluateAnswer q (take (wordsPerRecord * n) written) (lumaOf f b) (uOf f b) (vOf f b) (lumaOf g c) (uOf g c) (vOf g c)
+        (length bests) ≡ 0
     evaluating-done =
         evaluated s measure pnew reference order vectors (lumaOf f b) (uOf f b) (vOf f b) (lumaOf g c) (uOf g c) (vOf g c)
         records indices bests planned referred enough
+
+    module _ (asked : Bool) (output : List ℤ) (room : asked ≡ true → 2 * n ≤ length output) where
+      pub finishing-done : finishAnswer (s .grid .x) (s .grid .y) (take n named) (take (numbersPerBest * n) found) (madeOf s .diagonal) asked
+          (length vectors) (length output) ≡ 0
+      finishing-done =
+          finished s measure pnew reference order vectors (lumaOf f b) (uOf f b) (vOf f b) (lumaOf g c) (uOf g c) (vOf g c)
+          records indices bests planned referred enough asked output room
+
+      -- and the vectors that finishing leaves are the pass's
+      pub pass-done : finishVectors (s .grid .x) (s .grid .y) (take n named) (take (numbersPerBest * n) found) (madeOf s .diagonal) asked
+          vectors (length output) ≡ passVectors s q order vectors (lumaOf f b) (uOf f b) (vOf f b) (lumaOf g c) (uOf g c) (vOf g c)
+      pass-done =
+          vectors-are s measure pnew reference order vectors (lumaOf f b) (uOf f b) (vOf f b) (lumaOf g c) (uOf g c) (vOf g c)
+          records indices bests planned referred enough asked output room

@@ -71,7 +71,7 @@ pub some-turns : (z : ℤ) → ltZ z (pos 0) ≡ false → natAbs z ≡ turnsOf 
 some-turns (pos n) e = refl
 some-turns (negsuc n) e = absurd (omega (signed, ltZ-false (negsuc n) (pos 0) e))
 
--- ---- 02's words of a side: it never grows, and it is even from level 1 on
+-- ---- a side never grows from level to level, and is even from level 1 on
 module _ (z : ℤ) (natural : pos 0 ≤ℤ z) where
   reduced-less : (x : ℤ) → pos 0 ≤ℤ x → (pos 0 ≤ℤ reduced x) × (reduced x ≤ℤ x)
   reduced-less (pos a) h = (omega (signed, reduced-P (pos a), reduced-N (pos a)), omega (signed, reduced-P (pos a), reduced-N (pos a)))
