@@ -1,5 +1,8 @@
 //! The port, as a host calls it: the structs and functions of include/hirupango.h.
 
+/// The numbers of a best: x, y, SAD, average, and how many reference samples lie outside the data.
+pub(crate) const NUMBERS: usize = 5;
+
 #[repr(C)]
 #[derive(Clone, Copy)]
 pub(crate) struct Sides {
@@ -183,7 +186,7 @@ pub(crate) fn port_records(settings: Settings, order: &[i32], vectors: &[i32], s
 }
 
 pub(crate) fn port_bests(request: Request, records: &[i32], source: &[Vec<u8>; 3], reference: &[Vec<u8>; 3]) -> Vec<i32> {
-    let mut bests = vec![0; records.len() / 12 * 4];
+    let mut bests = vec![0; records.len() / 12 * NUMBERS];
     let [luma, u, v] = source;
     let [reference_luma, reference_u, reference_v] = reference;
     let number = unsafe {

@@ -158,12 +158,14 @@ struct hirupango_request {
 };
 
 /* Evaluating. n is the number of records, records_len / 12; luma, u and v are the source planes' bytes, and then the reference's. On 0 the
- * first 4 x n numbers of bests are x, y, SAD and average of each record's best, and the others stay.
+ * first 5 x n numbers of bests are x, y, SAD, average and absent of each record's best, and the others stay. absent is how many of the
+ * reference's samples at that vector, luma's and of a plain block U's and V's too, lie outside the bytes lent: such a sample counts 0 in
+ * the SAD, and is not black. A record without BAD was compared with nothing, and has -1 there.
  *   1  a block other than 8x8, 16x8 or 16x16, or a radius over 3
  *   2  a pel other than 1, 2 or 4, shifts other than (0,0), (1,0) or (1,1), source luma's sides not from 2 to 16,384, a chroma side that
  *      is not luma's shifted, a pitch not from the plane's width to 65,536, or a reference plane with other sides than the source's or another pel
  *   3  a plane of over 1,073,741,823 bytes, or of fewer than base + (height - 1) x pitch + width
- *   5  records_len is not a multiple of 12, or bests_len is under 4 x n
+ *   5  records_len is not a multiple of 12, or bests_len is under 5 x n
  *   7  a record with BAD set whose window has both sides non-empty and one over 2 x radius + 1 */
 uint32_t hirupango_evaluate(struct hirupango_request request, const int32_t *records, size_t records_len, const uint8_t *luma,
                             size_t luma_len, const uint8_t *u, size_t u_len, const uint8_t *v, size_t v_len,
@@ -171,14 +173,14 @@ uint32_t hirupango_evaluate(struct hirupango_request request, const int32_t *rec
                             size_t reference_u_len, const uint8_t *reference_v, size_t reference_v_len, int32_t *bests,
                             size_t bests_len);
 
-/* Finishing. n is nx x ny. indices name blocks of the grid; bests are x, y, SAD and average for each index. On 0 the vectors
- * of the blocks named are stored, x, y and SAD in vectors from 3 x index on; where output is asked for, the block's two
- * output words are stored in output from 2 x index on. Of two entries with one index the later wins, and everything else
- * stays.
+/* Finishing. n is nx x ny. indices name blocks of the grid; bests are x, y, SAD, average and absent for each index, and absent
+ * is not looked at. On 0 the vectors of the blocks named are stored, x, y and SAD in vectors from 3 x index on; where output
+ * is asked for, the block's two output words are stored in output from 2 x index on. Of two entries with one index the later
+ * wins, and everything else stays.
  *   1  a side below 2
  *   2  a side over 2,048, vectors_len not 3 x n, or a diagonal of 0 or less
  *   4  an index not from 0 to n - 1
- *   5  output asked for and output_len under 2 x n, or bests_len not 4 x indices_len
+ *   5  output asked for and output_len under 2 x n, or bests_len not 5 x indices_len
  *   7  a best's component beyond i16 */
 uint32_t hirupango_finish(int32_t nx, int32_t ny, const int32_t *indices, size_t indices_len, const int32_t *bests,
                           size_t bests_len, int32_t diagonal, bool output_asked, int32_t *vectors, size_t vectors_len,

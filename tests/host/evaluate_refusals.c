@@ -1,10 +1,11 @@
 /* Evaluating's refusals, each way into one: the case one step outside with its number, and its neighbour inside with 0. */
+#include "best.h"
 #include "cases.h"
 #include "expect.h"
 #include "unread.h"
 
-enum { MOST = 12, WORDS = 12, NUMBERS = 4, PLANES = 6, BAD = 1, NEGATIVE = 2 };
-enum { PREDICTOR = 7, WINDOW_X = 8, WINDOW_Y = 9, SAD = 10, LAMBDA = 11 };
+enum { MOST = 12, WORDS = 12, PLANES = 6, BAD = 1, NEGATIVE = 2 };
+enum { POSITION = 5, CHROMA_POSITION = 6, PREDICTOR = 7, WINDOW_X = 8, WINDOW_Y = 9, SAD = 10, LAMBDA = 11 };
 
 static struct hirupango_request q;
 static int32_t records[WORDS * MOST], before[WORDS * MOST], bests[NUMBERS * MOST];
@@ -81,6 +82,35 @@ static int32_t second_of(int32_t word) {
     return first_of((int32_t)((uint32_t)word >> 16));
 }
 
+/* Where a plane's sample at (x,y) is in its bytes: what pel leaves of x and y says in which subplane. */
+static int64_t place_of(struct hirupango_place p, int32_t x, int32_t y) {
+    int64_t left_x = ((x % p.pel) + p.pel) % p.pel, left_y = ((y % p.pel) + p.pel) % p.pel;
+    int64_t column = (x - left_x) / p.pel, row = (y - left_y) / p.pel;
+    return (int64_t)p.base + row * p.pitch + column + (left_x + p.pel * left_y) * p.pitch * p.height;
+}
+
+/* Of a block whose first sample is at a place, how many samples lie outside the bytes of a plane, looked at one by one. */
+static int32_t absent(int at, int64_t first, int32_t width, int32_t height) {
+    int32_t count = 0;
+    for (int32_t y = 0; y < height; y++)
+        for (int32_t x = 0; x < width; x++) {
+            int64_t sample = first + (int64_t)y * plane(at)->pitch + x;
+            if (sample < 0 || sample >= (int64_t)lengths[at]) count++;
+        }
+    return count;
+}
+
+/* The fifth number of a record's best: of the reference's planes, at the vector (x,y). V is read from U's place on. */
+static int32_t outside(const int32_t *record, int32_t x, int32_t y) {
+    int32_t last = record[LAMBDA], half = last & NEGATIVE ? 2 : 1, shift = q.shift.x;
+    if (!(last & BAD)) return -1;
+    int64_t luma = place_of(q.reference.luma, first_of(record[POSITION]) + x, second_of(record[POSITION]) + y);
+    int32_t count = absent(3, luma, q.block.x / half, q.block.y / half);
+    if (last & NEGATIVE) return count;
+    int64_t u = place_of(q.reference.u, first_of(record[CHROMA_POSITION]) + (x >> shift), second_of(record[CHROMA_POSITION]) + (y >> shift));
+    return count + absent(4, u, q.block.x >> shift, q.block.y >> shift) + absent(5, u, q.block.x >> shift, q.block.y >> shift);
+}
+
 /* Whether a best is that of the record, where all samples are 0 and a candidate costs minus its squared distance. */
 static int is_best(const int32_t *record, const int32_t *best) {
     int32_t px = first_of(record[PREDICTOR]), py = second_of(record[PREDICTOR]), x = px, y = py, far = 0;
@@ -94,7 +124,7 @@ static int is_best(const int32_t *record, const int32_t *best) {
                 x = vx;
                 y = vy;
             }
-    return best[0] == x && best[1] == y && best[2] == (bad ? 0 : record[SAD]) && best[3] == 0;
+    return best[0] == x && best[1] == y && best[2] == (bad ? 0 : record[SAD]) && best[3] == 0 && best[OUTSIDE] == outside(record, x, y);
 }
 
 static void begin(const char *what) {
@@ -247,6 +277,9 @@ static void room(void) {
     TRY(5, (records_len += WORDS, bests_len += NUMBERS - 1));
     TRY(5, bests_len -= 1);
     TRY(0, bests_len += 1);
+    TRY(5, bests_len = 4 * 2);
+    TRY(0, (records_len = WORDS, bests_len = NUMBERS));
+    TRY(5, (records_len = WORDS, bests_len = 4));
     TRY(5, bests_len = 0);
     TRY(0, records_len = 0);
     TRY(0, records_len = bests_len = 0);

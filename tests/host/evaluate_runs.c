@@ -1,4 +1,5 @@
 /* Two bests of evaluating that show its order of tests: the paper's luma column at pel 1, and a tie at the luma test. */
+#include "best.h"
 #include "cases.h"
 #include "expect.h"
 
@@ -22,23 +23,23 @@ struct search {
     int32_t pel, radius, pnew, lambda, predictor, window_x, window_y;
 };
 
-/* One plain bad 8x8 block at (8,8), SAD, chroma as large as luma, every source sample 0. */
+/* One plain bad 8x8 block at (8,8), SAD, chroma as large as luma, every source sample 0, no sample at its best outside the data. */
 static void best(const char *what, struct search s, int32_t x, int32_t y, int32_t sad) {
     struct hirupango_place place = {0, SIDE, SIDE, SIDE, s.pel};
     struct hirupango_request q = {false, {8, 8}, {0, 0}, s.radius, s.pnew, s.pel, {place, place, place}, {place, place, place}};
     int32_t corner = pair(AT * s.pel, AT * s.pel), origin = AT * SIDE + AT;
     int32_t record[WORDS] = {origin,      INT32_MIN,  origin,     origin, origin,          corner, corner,
                              s.predictor, s.window_x, s.window_y, 0,      s.lambda * 4 + 1};
-    int32_t expected[4] = {x, y, sad, 0}, found[2 * 4];
-    mark(found, 2 * 4);
+    int32_t expected[NUMBERS] = {x, y, sad, 0, 0}, found[2 * NUMBERS];
+    mark(found, 2 * NUMBERS);
     new_case("evaluate", what);
     given(&s, sizeof s);
     given(luma, BYTES);
     uint32_t number = hirupango_evaluate(q, record, WORDS, source, BYTES, source, BYTES, source, BYTES, luma, BYTES, u, BYTES, v, BYTES,
-                                         found, 4);
+                                         found, NUMBERS);
     expect(number == 0, "number", number, 0);
-    for (int i = 0; i < 4; i++) expect(found[i] == expected[i], "x, y, SAD or average", found[i], expected[i]);
-    expect(marked(found, 4, 2 * 4), "what is behind the best has changed", 1, 0);
+    for (int i = 0; i < NUMBERS; i++) expect(found[i] == expected[i], "x, y, SAD, average or what is outside", found[i], expected[i]);
+    expect(marked(found, NUMBERS, 2 * NUMBERS), "what is behind the best has changed", 1, 0);
 }
 
 /* Of row 0 only vector 0 passes the distance test: the others cost 100 and more, and the least cost is the predictor's 50. At pel 1 it

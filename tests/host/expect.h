@@ -33,6 +33,7 @@ void numbers_tests(void);
 void plan_refusals_tests(void);
 void evaluate_refusals_tests(void);
 void evaluate_runs_tests(void);
+void absent_tests(void);
 void finish_refusals_tests(void);
 void frame_pair_tests(void);
 void level_tests(void);

@@ -1,10 +1,11 @@
 /* Finishing's refusals, each way into one: the case one step outside with its number, and its neighbour inside with 0. */
+#include "best.h"
 #include "cases.h"
 #include "expect.h"
 
-enum { MOST = 4100, ENTRIES = 3, NUMBERS = 4 * ENTRIES + 4 };
+enum { MOST = 4100, ENTRIES = 3 };
 
-static int32_t nx, ny, diagonal, indices[ENTRIES], bests[NUMBERS], vectors[3 * MOST], output[2 * MOST];
+static int32_t nx, ny, diagonal, indices[ENTRIES], bests[NUMBERS * (ENTRIES + 1)], vectors[3 * MOST], output[2 * MOST];
 static bool output_asked;
 static size_t indices_len, bests_len, vectors_len, output_len;
 
@@ -19,7 +20,7 @@ static void grid(int32_t columns, int32_t rows) {
 
 /* Three entries, of which the last names the block that the first does. */
 static void base(void) {
-    static const int32_t first[] = {1, -1, 5, 9, 2, 3, 6, 8, -4, 4, 7, -1};
+    static const int32_t first[] = {1, -1, 5, 9, 0, 2, 3, 6, 8, 192, -4, 4, 7, -1, -1};
     grid(2, 2);
     diagonal = 4404;
     output_asked = true;
@@ -28,7 +29,7 @@ static void base(void) {
     indices_len = ENTRIES;
     memset(bests, 0, sizeof bests);
     memcpy(bests, first, sizeof first);
-    bests_len = 4 * ENTRIES;
+    bests_len = NUMBERS * ENTRIES;
 }
 
 /* ---- asking */
@@ -36,7 +37,7 @@ static void base(void) {
 static int stored(size_t block) {
     const int32_t *best = NULL;
     for (size_t i = 0; i < indices_len; i++)
-        if (indices[i] == (int32_t)block) best = bests + 4 * i;
+        if (indices[i] == (int32_t)block) best = bests + NUMBERS * i;
     if (!best) return marked(vectors, 3 * block, 3 * block + 3) && marked(output, 2 * block, 2 * block + 2);
     if (memcmp(vectors + 3 * block, best, 3 * sizeof *best) != 0) return 0;
     if (!output_asked) return marked(output, 2 * block, 2 * block + 2);
@@ -134,14 +135,16 @@ static void room(void) {
     TRY(0, (output_asked = false, output_len = 0));
     TRY(5, bests_len--);
     TRY(5, bests_len++);
-    TRY(5, bests_len -= 4);
-    TRY(5, bests_len += 4);
+    TRY(5, bests_len -= NUMBERS);
+    TRY(5, bests_len += NUMBERS);
+    TRY(5, bests_len = 4 * ENTRIES);
+    TRY(5, (indices_len = 1, bests_len = 4));
     TRY(5, bests_len = 0);
     TRY(5, (output_asked = false, bests_len++));
     TRY(5, indices_len--);
     TRY(5, indices_len = 0);
     TRY(0, indices_len = bests_len = 0);
-    TRY(0, (indices_len = 2, bests_len = 8));
+    TRY(0, (indices_len = 2, bests_len = 2 * NUMBERS));
     nothing_lent(0, false);
     nothing_lent(5, true);
 }
@@ -152,13 +155,31 @@ static void components(void) {
     for (int asks = 0; asks <= 1; asks++)
         for (size_t at = 0; at < ENTRIES; at++)
             for (int i = 0; i < 4; i++) {
-                TRY(0, (output_asked = asks, bests[4 * at] = inside[i]));
-                TRY(0, (output_asked = asks, bests[4 * at + 1] = inside[i]));
-                TRY(7, (output_asked = asks, bests[4 * at] = outside[i]));
-                TRY(7, (output_asked = asks, bests[4 * at + 1] = outside[i]));
-                TRY(0, (output_asked = asks, bests[4 * at + 2] = outside[i]));
-                TRY(0, (output_asked = asks, bests[4 * at + 3] = outside[i]));
+                TRY(0, (output_asked = asks, bests[NUMBERS * at] = inside[i]));
+                TRY(0, (output_asked = asks, bests[NUMBERS * at + 1] = inside[i]));
+                TRY(7, (output_asked = asks, bests[NUMBERS * at] = outside[i]));
+                TRY(7, (output_asked = asks, bests[NUMBERS * at + 1] = outside[i]));
+                TRY(0, (output_asked = asks, bests[NUMBERS * at + 2] = outside[i]));
+                TRY(0, (output_asked = asks, bests[NUMBERS * at + 3] = outside[i]));
             }
+}
+
+/* ---- the fifth number: any is taken, and what is stored stays what it was */
+static void fifth_numbers(void) {
+    enum { GRID = 4 };
+    const int32_t any[] = {INT32_MIN, INT32_MIN + 1, -2, -1, 0, 1, 768, 769, INT32_MAX};
+    static int32_t same_vectors[3 * GRID], same_output[2 * GRID];
+    for (int asks = 0; asks <= 1; asks++) {
+        TRY(0, output_asked = asks);
+        memcpy(same_vectors, vectors, sizeof same_vectors);
+        memcpy(same_output, output, sizeof same_output);
+        for (size_t at = 0; at < ENTRIES; at++)
+            for (int i = 0; i < 9; i++) {
+                TRY(0, (output_asked = asks, bests[NUMBERS * at + OUTSIDE] = any[i]));
+                expect(memcmp(vectors, same_vectors, sizeof same_vectors) == 0, "a vector has changed", (long)at, any[i]);
+                expect(memcmp(output, same_output, sizeof same_output) == 0, "an output word has changed", (long)at, any[i]);
+            }
+    }
 }
 
 /* ---- several at once: the lowest is given */
@@ -169,7 +190,7 @@ static void spoil(uint32_t number) {
     if (number == 2) diagonal = 0;
     if (number == 4) indices[2] = 4;
     if (number == 5) output_len = 1;
-    if (number == 7) bests[9] = 32768;
+    if (number == 7) bests[2 * NUMBERS + 1] = 32768;
 }
 
 static void several(void) {
@@ -189,5 +210,6 @@ void finish_refusals_tests(void) {
     outside_the_grid();
     room();
     components();
+    fifth_numbers();
     several();
 }

@@ -1,5 +1,6 @@
 /* The pass on a small frame pair: a texture that moves by (2,2), predictors that say (0,0). Every block that can see it there finds it; the first
  * block inside behind a moved one looks for the samples of another place, and doesn't. Refused input leaves all that is lent. */
+#include "best.h"
 #include "cases.h"
 #include "expect.h"
 
@@ -7,7 +8,7 @@ enum { SIDE = 48, HALF = SIDE / 2, GRID = 6, BLOCKS = GRID * GRID, INSIDE = GRID
 
 static uint8_t luma[SIDE * SIDE], u[HALF * HALF], v[HALF * HALF];
 static uint8_t next_luma[SIDE * SIDE], next_u[HALF * HALF], next_v[HALF * HALF];
-static int32_t order[2 * BLOCKS], vectors[3 * BLOCKS], records[WORDS * BLOCKS], indices[BLOCKS], bests[4 * BLOCKS],
+static int32_t order[2 * BLOCKS], vectors[3 * BLOCKS], records[WORDS * BLOCKS], indices[BLOCKS], bests[NUMBERS * BLOCKS],
     output[2 * BLOCKS];
 
 static void fill(uint8_t *plane, int side, int which, int motion) {
@@ -53,14 +54,14 @@ static void evaluate(uint32_t number, const char *what, struct hirupango_setting
     struct hirupango_request q = {false, s.block, s.shift, s.search.search_param, 0, 1, {s.planes.luma, s.planes.u, s.planes.v},
                                   {s.planes.luma, s.planes.u, s.planes.v}};
     uint32_t answered = hirupango_evaluate(q, records, WORDS * BLOCKS, luma, sizeof luma, u, sizeof u, v, sizeof v, next_luma, sizeof next_luma,
-                                           next_u, sizeof next_u, next_v, sizeof next_v, bests, 4 * BLOCKS);
+                                           next_u, sizeof next_u, next_v, sizeof next_v, bests, NUMBERS * BLOCKS);
     expect(answered == number, "number", answered, number);
 }
 
 static void finish(uint32_t number, const char *what) {
     new_case("finish", what);
     given(bests, sizeof bests);
-    uint32_t answered = hirupango_finish(GRID, GRID, indices, BLOCKS, bests, 4 * BLOCKS, 67, true, vectors, 3 * BLOCKS, output, 2 * BLOCKS);
+    uint32_t answered = hirupango_finish(GRID, GRID, indices, BLOCKS, bests, NUMBERS * BLOCKS, 67, true, vectors, 3 * BLOCKS, output, 2 * BLOCKS);
     expect(answered == number, "number", answered, number);
 }
 
@@ -69,6 +70,7 @@ static void the_pass(void) {
     start();
     plan(0, "frame pair", s);
     evaluate(0, "frame pair", s);
+    for (int i = 0; i < BLOCKS; i++) expect(bests[NUMBERS * i + OUTSIDE] == 0, "a best has samples outside the data", i, bests[NUMBERS * i + OUTSIDE]);
     finish(0, "frame pair");
     for (int y = 0; y < INSIDE; y++)
         for (int x = 0; x < INSIDE; x++) {
@@ -101,11 +103,11 @@ static void refused(void) {
     expect(marked(records, 0, WORDS * BLOCKS), "the records have changed", 1, 0);
     expect(marked(indices, 0, BLOCKS), "the indices have changed", 1, 0);
     plan(0, "frame pair, again", s);
-    mark(bests, 4 * BLOCKS);
+    mark(bests, NUMBERS * BLOCKS);
     evaluate(1, "frame pair, refused", wide);
-    expect(marked(bests, 0, 4 * BLOCKS), "the bests have changed", 1, 0);
+    expect(marked(bests, 0, NUMBERS * BLOCKS), "the bests have changed", 1, 0);
     evaluate(0, "frame pair, again", s);
-    bests[4 * (BLOCKS - 1)] = 32768;
+    bests[NUMBERS * (BLOCKS - 1)] = 32768;
     mark(vectors, 3 * BLOCKS);
     finish(7, "frame pair, refused");
     expect(marked(vectors, 0, 3 * BLOCKS), "the vectors have changed", 1, 0);

@@ -1,6 +1,7 @@
 /* The pass on level 1 of a pyramid, as a host runs it that keeps two levels in one buffer for each plane: it asks where level 1 lies in the source's
  * buffers and in the reference's, and hands these places on. Level 1 shows a texture that moves by (2,2); level 0, in front of it, is all of
  * one grey, so that planes cut from anywhere else find nothing. */
+#include "best.h"
 #include "cases.h"
 #include "expect.h"
 
@@ -19,7 +20,7 @@ struct level {
 };
 
 static struct pyramid source, reference;
-static int32_t order[2 * BLOCKS], vectors[3 * BLOCKS], records[WORDS * BLOCKS], indices[BLOCKS], bests[4 * BLOCKS],
+static int32_t order[2 * BLOCKS], vectors[3 * BLOCKS], records[WORDS * BLOCKS], indices[BLOCKS], bests[NUMBERS * BLOCKS],
     output[2 * BLOCKS];
 
 /* ---- the pyramids */
@@ -76,14 +77,15 @@ static void evaluate(struct level from, struct level to) {
     given(next, sizeof *next);
     uint32_t number = hirupango_evaluate(q, records, WORDS * BLOCKS, p->luma, sizeof p->luma, p->u, sizeof p->u, p->v, sizeof p->v,
                                          next->luma, sizeof next->luma, next->u, sizeof next->u, next->v, sizeof next->v, bests,
-                                         4 * BLOCKS);
+                                         NUMBERS * BLOCKS);
     expect(number == 0, "number", number, 0);
+    for (int i = 0; i < BLOCKS; i++) expect(bests[NUMBERS * i + OUTSIDE] == 0, "a best has samples outside the data", i, bests[NUMBERS * i + OUTSIDE]);
 }
 
 static void finish(void) {
     new_case("finish", "level 1");
     given(bests, sizeof bests);
-    uint32_t number = hirupango_finish(GRID, GRID, indices, BLOCKS, bests, 4 * BLOCKS, DIAGONAL, true, vectors, 3 * BLOCKS, output,
+    uint32_t number = hirupango_finish(GRID, GRID, indices, BLOCKS, bests, NUMBERS * BLOCKS, DIAGONAL, true, vectors, 3 * BLOCKS, output,
                                        2 * BLOCKS);
     expect(number == 0, "number", number, 0);
 }

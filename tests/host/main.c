@@ -91,6 +91,7 @@ int main(void) {
     plan_refusals_tests();
     evaluate_refusals_tests();
     evaluate_runs_tests();
+    absent_tests();
     finish_refusals_tests();
     frame_pair_tests();
     level_tests();

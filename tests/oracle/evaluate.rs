@@ -1,6 +1,8 @@
 //! The kind evaluate: its line, and its answer.
 
+use crate::absent;
 use crate::analyse::field::recalc::{RECORD, inside};
+use crate::analyse::planes::LevelFrame;
 use crate::kinds::Kind;
 use crate::lines::{Fault, Numbers, Work};
 use crate::plan::PlanCase;
@@ -18,6 +20,9 @@ pub(crate) const EVALUATE: Kind = Kind {
             .collect()
     },
 };
+
+/// x, y, SAD and average, which the Rust answers, and how many reference samples lie outside the data.
+pub(crate) type Best = [i32; 5];
 
 /// Three planes and how their bytes are made.
 #[derive(Clone)]
@@ -109,7 +114,7 @@ impl EvaluateCase {
         choose::slots(self.search_param.abs())
     }
 
-    pub(crate) fn bests(&self) -> Vec<[i32; 4]> {
+    pub(crate) fn bests(&self) -> Vec<Best> {
         let (source, reference) = (self.source.bytes(), self.reference.bytes());
         let source = frame(
             &self.source.planes,
@@ -121,7 +126,17 @@ impl EvaluateCase {
             reference.each_ref().map(Vec::as_slice),
             self.pel,
         );
-        inside::evaluate(self, &source, &reference)
+        self.bests_on(&source, &reference)
+    }
+
+    /// On frames that are there: not the case's own, where these were cut from a super frame.
+    pub(crate) fn bests_on(
+        &self,
+        source: &LevelFrame<'_>,
+        reference: &LevelFrame<'_>,
+    ) -> Vec<Best> {
+        let bests = inside::evaluate(self, source, reference);
+        absent::counted(self, reference, &bests)
     }
 }
 

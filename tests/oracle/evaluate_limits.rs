@@ -7,7 +7,7 @@ use crate::free_records::{
     pair_word,
 };
 use crate::plan_cases::{BLOCKS, SHIFTS, tight};
-use crate::planes::Fill;
+use crate::planes::{Fill, Plane};
 use crate::random::{GREATEST, to_half};
 
 pub(crate) fn cases() -> Vec<EvaluateCase> {
@@ -31,6 +31,9 @@ pub(crate) fn cases() -> Vec<EvaluateCase> {
             }
         }
     }
+    cases.extend(corners());
+    cases.extend(answered_elsewhere());
+    cases.push(other_column());
     cases
 }
 
@@ -148,4 +151,107 @@ fn outside(case: &EvaluateCase) -> Vec<Words> {
         records.push(record);
     }
     records
+}
+
+/// 8x8 in 16x16 at pel 2, of whose four subplanes the data have the first alone. The two pictures are the same.
+fn first_subplane() -> EvaluateCase {
+    let frame = Planes {
+        planes: [tight(0, 16, (16, 16)); 3],
+        fills: [3, 4, 5].map(|seed| Fill { seed, levels: 256 }),
+    };
+    EvaluateCase {
+        satd: false,
+        pel: 2,
+        shift: (0, 0),
+        block: (8, 8),
+        search_param: 1,
+        pnew: 0,
+        source: frame.clone(),
+        reference: frame,
+        records: Vec::new(),
+    }
+}
+
+/// The block in the corner, its window empty.
+fn corner_record(predictor: (i64, i64), flags: i64) -> Words {
+    let mut record = [0, NONE, 0, 0, 0, 0, 0, 0, 0, 0, 10, 0];
+    record[PREDICTOR] = pair_word(predictor.0, predictor.1);
+    record[WINDOW_X] = pair_word(0, -1);
+    record[WINDOW_Y] = pair_word(0, -1);
+    record[LAMBDA] = lambda_word(0, flags);
+    record
+}
+
+/// The smallest cases of what is absent. Of the plain block that is nothing at (0,0), all at (1,0), all but the first
+/// sample of each plane at (-1,0), and that one alone at (-2,0). Behind them a row above the data and one below, and a
+/// sample behind the last. Then the same where V has more data than U, fewer, or longer rows.
+fn corners() -> Vec<EvaluateCase> {
+    let mut cases = Vec::new();
+    for chroma in corner_chromas() {
+        let mut case = first_subplane();
+        case.reference.planes[1..].copy_from_slice(&chroma);
+        for predictor in [(0, 0), (1, 0), (-1, 0), (-2, 0), (0, -2), (0, 18), (18, 16)] {
+            for flags in [BAD, BAD + NEGATIVE, 0] {
+                cases.push(with_records(&case, &[corner_record(predictor, flags)]));
+            }
+        }
+    }
+    cases
+}
+
+/// U and V of the reference.
+fn corner_chromas() -> [[Plane; 2]; 5] {
+    let first = tight(0, 16, (16, 16));
+    let whole = Plane {
+        length: first.full_length(2),
+        ..first
+    };
+    let wide = tight(0, 20, (16, 16));
+    [
+        [first, first],
+        [first, whole],
+        [whole, first],
+        [first, wide],
+        [whole, wide],
+    ]
+}
+
+/// Where another vector than the predictor is answered, and not as many samples are absent there: none where all were,
+/// and all where none was.
+fn answered_elsewhere() -> [EvaluateCase; 2] {
+    let real = first_subplane();
+    let mut black = first_subplane();
+    for fill in &mut black.source.fills {
+        fill.levels = 1;
+    }
+    let towards = |predictor, x| {
+        let mut record = corner_record(predictor, BAD);
+        record[WINDOW_X] = pair_word(x, x);
+        record[WINDOW_Y] = pair_word(0, 0);
+        record
+    };
+    [
+        with_records(&real, &[towards((1, 0), 0)]),
+        with_records(&black, &[towards((0, 0), 1)]),
+    ]
+}
+
+/// At pel 1 the last of three columns alone passes the distance test, and is given the luma of the first, which is the
+/// source's. Of the last rows of its three planes one sample each is absent, of the predictor's two, of the first
+/// column's none.
+fn other_column() -> EvaluateCase {
+    let mut case = first_subplane();
+    case.pel = 1;
+    for at in [1, 2] {
+        case.source.fills[at].levels = 1;
+        case.reference.fills[at].levels = 1;
+    }
+    let mut record = corner_record((2, 0), BAD);
+    record[0] = 8 * 16 + 7;
+    record[POSITION] = pair_word(8, 8);
+    record[CHROMA_POSITION] = pair_word(8, 8);
+    record[WINDOW_X] = pair_word(-1, 1);
+    record[WINDOW_Y] = pair_word(0, 0);
+    record[LAMBDA] = lambda_word(2000 * 256, BAD);
+    with_records(&case, &[record])
 }

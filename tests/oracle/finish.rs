@@ -1,6 +1,7 @@
 //! The kind finish.
 
 use crate::analyse::field::recalc::inside;
+use crate::evaluate::Best;
 use crate::kinds::Kind;
 use crate::lines::{Fault, Numbers, Work};
 use crate::random::{GREATEST, LEAST, Random};
@@ -18,7 +19,7 @@ pub(crate) struct FinishCase {
     pub(crate) diagonal: i32,
     pub(crate) output: bool,
     pub(crate) indices: Vec<u32>,
-    pub(crate) bests: Vec<[i32; 4]>,
+    pub(crate) bests: Vec<Best>,
 }
 
 fn read_finish(numbers: &mut Numbers<'_>) -> Result<Work, Fault> {
@@ -27,6 +28,7 @@ fn read_finish(numbers: &mut Numbers<'_>) -> Result<Work, Fault> {
     let indices = numbers.many(count)?;
     let mut best = || {
         Ok([
+            numbers.take()?,
             numbers.take()?,
             numbers.take()?,
             numbers.take()?,
@@ -64,7 +66,7 @@ fn numbers(
     diagonal: i64,
     output: bool,
     indices: &[i64],
-    bests: &[[i64; 4]],
+    bests: &[[i64; 5]],
 ) -> Vec<i64> {
     let head = [
         grid.0,
@@ -87,14 +89,24 @@ fn random_finish(random: &mut Random) -> Vec<i64> {
     let indices: Vec<i64> = (0..count).map(|_| random.between(0, reach - 1)).collect();
     let best = |random: &mut Random| {
         let (x, y) = score::scored_vector(random, diagonal);
-        [x, y, score::sad(random), score::average(random)]
+        let (sad, average) = (score::sad(random), score::average(random));
+        [x, y, sad, average, outside(random)]
     };
-    let bests: Vec<[i64; 4]> = (0..count).map(|_| best(random)).collect();
+    let bests: Vec<[i64; 5]> = (0..count).map(|_| best(random)).collect();
     numbers(grid, diagonal, output, &indices, &bests)
 }
 
+/// A best's fifth number, which finishing must not look at: one that evaluating gives, or any.
+fn outside(random: &mut Random) -> i64 {
+    match random.below(3) {
+        0 => random.pick(&[-1, 0]),
+        1 => random.between(1, 768),
+        _ => random.word(),
+    }
+}
+
 fn finish_limits() -> Vec<Vec<i64>> {
-    let one = |best: [i64; 4], output| numbers((2, 2), 4404, output, &[3], &[best]);
+    let one = |best: [i64; 5], output| numbers((2, 2), 4404, output, &[3], &[best]);
     let ends = [-32_768, -32_767, -1, 0, 1, 32_766, 32_767];
     let words = [LEAST, -1, 0, 1, 127, 128, 255, 256, GREATEST];
     let mut cases = vec![
@@ -102,15 +114,17 @@ fn finish_limits() -> Vec<Vec<i64>> {
         numbers((2, 2), 1, false, &[], &[]),
     ];
     for x in ends {
-        cases.extend(ends.map(|y| one([x, y, 100, 7], true)));
-        cases.extend(ends.map(|y| one([x, y, 100, 7], false)));
+        cases.extend(ends.map(|y| one([x, y, 100, 7, 0], true)));
+        cases.extend(ends.map(|y| one([x, y, 100, 7, 0], false)));
     }
     for word in words {
-        cases.push(one([705, 0, word, 7], true));
-        cases.push(one([705, 0, 100, word], true));
+        cases.push(one([705, 0, word, 7, 0], true));
+        cases.push(one([705, 0, 100, word, 0], true));
+        cases.push(one([705, 0, 100, 7, word], true));
+        cases.push(one([705, 0, 100, 7, word], false));
     }
     for index in 0..6 {
-        let bests = [[1, -1, 5, 9], [2, 3, 6, 8]];
+        let bests = [[1, -1, 5, 9, 3], [2, 3, 6, 8, -1]];
         cases.push(numbers((3, 2), 12, true, &[index], &bests[..1]));
         cases.push(numbers((3, 2), 12, true, &[index; 2], &bests));
     }

@@ -247,8 +247,13 @@ impl Finished {
             diagonal: case.diagonal,
             ..RecalcPlan::default()
         };
+        // The Rust's bests are four numbers: it never sees the fifth.
+        let bests = case.bests.iter();
+        let four: Vec<[i32; 4]> = bests
+            .map(|&[x, y, sad, average, _]| [x, y, sad, average])
+            .collect();
         let asked = case.output.then_some(self.words.as_mut_slice());
-        self.field.finish_recalculate(&plan, &case.bests, asked);
+        self.field.finish_recalculate(&plan, &four, asked);
     }
 
     pub(crate) fn vectors(&self) -> Vec<(i16, i16, i32)> {

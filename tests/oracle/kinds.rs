@@ -14,7 +14,7 @@ pub(crate) struct Kind {
     pub(crate) limits: fn() -> Vec<Vec<i64>>,
 }
 
-pub(crate) const KINDS: [Kind; 21] = [
+pub(crate) const KINDS: [Kind; 23] = [
     packing::PAIR,
     packing::UNPAIR,
     packing::RECORD,
@@ -27,6 +27,8 @@ pub(crate) const KINDS: [Kind; 21] = [
     serpentine::ORDER,
     planes::OFFSET,
     block::BLOCK,
+    block::ABSENT,
+    block::SAMPLE,
     plan::PLAN,
     evaluate::EVALUATE,
     choose::CHOOSE,

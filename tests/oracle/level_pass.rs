@@ -129,7 +129,7 @@ impl LevelPassCase {
         let reference = self.reference.case.level(reference);
         let planned = inside::plan(&self.pass.plan, &source);
         self.pass
-            .answers_from(planned, |case| inside::evaluate(case, &source, &reference))
+            .answers_from(planned, |case| case.bests_on(&source, &reference))
     }
 }
 

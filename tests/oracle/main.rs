@@ -10,6 +10,7 @@ mod analyse {
 #[path = "value.rs"]
 mod params;
 
+mod absent;
 mod block;
 mod choose;
 mod choose_limits;

@@ -77,7 +77,7 @@ fn finish(change: impl Fn(&mut FinishCase, &mut usize, &mut usize)) -> Case {
         diagonal: 4404,
         output: true,
         indices: vec![3],
-        bests: vec![[1, 0, 5, 9]],
+        bests: vec![[1, 0, 5, 9, 3]],
     };
     let (mut vectors, mut words) = (4, 8);
     change(&mut case, &mut vectors, &mut words);
@@ -99,7 +99,7 @@ fn finishes() -> Vec<Named> {
         ("finish-x-32768", finish(|case, _, _| case.bests[0][0] = 32_768)),
         ("finish-index-4", finish(|case, _, _| {
             case.indices = vec![3, 4];
-            case.bests.push([2, 0, 6, 8]);
+            case.bests.push([2, 0, 6, 8, -1]);
         })),
         ("finish-diagonal-0", finish(|case, _, words| {
             case.diagonal = 0;
@@ -109,7 +109,7 @@ fn finishes() -> Vec<Named> {
         ("finish-diagonal-0-output", finish(|case, _, _| case.diagonal = 0)),
         ("finish-diagonal-below-0", finish(|case, _, _| case.diagonal = -1)),
         ("finish-fewer-bests", finish(|case, _, _| case.bests.clear())),
-        ("finish-more-bests", finish(|case, _, _| case.bests.push([2, 0, 6, 8]))),
+        ("finish-more-bests", finish(|case, _, _| case.bests.push([2, 0, 6, 8, -1]))),
         ("finish-short-output", finish(|case, _, words| {
             case.indices = vec![0];
             *words = 2;

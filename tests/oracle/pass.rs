@@ -3,7 +3,7 @@
 use std::collections::HashSet;
 
 use crate::analyse::field::recalc::inside::{self, Planned};
-use crate::evaluate::{EvaluateCase, Planes};
+use crate::evaluate::{Best, EvaluateCase, Planes};
 use crate::evaluate_cases;
 use crate::finish::{self, FinishCase};
 use crate::kinds::Kind;
@@ -67,7 +67,7 @@ impl PassCase {
     pub(crate) fn answers_from(
         &self,
         planned: Option<Planned>,
-        bests: impl FnOnce(&EvaluateCase) -> Vec<[i32; 4]>,
+        bests: impl FnOnce(&EvaluateCase) -> Vec<Best>,
     ) -> Vec<i64> {
         let Some(planned) = planned else {
             return vec![plan::REFUSED];
@@ -82,7 +82,7 @@ impl PassCase {
     }
 
     /// The vectors of the grid, of which those that no entry names are as they were, and the output words.
-    fn finished(&self, planned: &Planned, bests: Vec<[i32; 4]>) -> Vec<i64> {
+    fn finished(&self, planned: &Planned, bests: Vec<Best>) -> Vec<i64> {
         let named: HashSet<usize> = planned.indices.iter().map(|&at| at as usize).collect();
         let (mut vectors, output) = inside::finish(&FinishCase {
             grid: self.plan.grid,

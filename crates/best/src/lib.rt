@@ -74,7 +74,7 @@ fn searched(negative: bool, side: i32) -> usize
     natural(side)
 }
 
-fn width_of(task: Task, given: Record) -> usize
+pub fn width_of(task: Task, given: Record) -> usize
     requires { ⌜ Fair task given ⌝ }
     ensures { λ r. ⌜ r ≡ widthOf task given ⌝ }
 {
@@ -83,7 +83,7 @@ fn width_of(task: Task, given: Record) -> usize
     searched(window::is_negative(given), side)
 }
 
-fn height_of(task: Task, given: Record) -> usize
+pub fn height_of(task: Task, given: Record) -> usize
     requires { ⌜ Fair task given ⌝ }
     ensures { λ r. ⌜ r ≡ heightOf task given ⌝ }
 {
@@ -92,7 +92,7 @@ fn height_of(task: Task, given: Record) -> usize
     searched(window::is_negative(given), side)
 }
 
-fn chroma_side(side: i32, shift: i32) -> usize
+pub fn chroma_side(side: i32, shift: i32) -> usize
     requires { ⌜ Within 0 16 side ⌝ }
     ensures { λ r. ⌜ r ≡ natAbs (shiftedBy side shift) ⌝ }
 {
@@ -107,7 +107,7 @@ fn scale_of(shift: i32) -> u32
 }
 
 // ---- luma
-fn luma_reference(task: Task, given: Record) -> Reference
+pub fn luma_reference(task: Task, given: Record) -> Reference
     ensures { λ r. ⌜ r ≡ lumaReference task given ⌝ }
 {
     let planes = task.reference;
@@ -153,7 +153,7 @@ fn luma_table(task: Task, given: Record, luma: &[u8], reference_luma: &[u8]) -> 
 }
 
 // ---- chroma
-fn chroma_reference(task: Task, given: Record) -> Reference
+pub fn chroma_reference(task: Task, given: Record) -> Reference
     ensures { λ r. ⌜ r ≡ chromaReference task given ⌝ }
 {
     let planes = task.reference;

@@ -234,7 +234,7 @@ fn offset_at(bytes: &[u8], place: Place, x: i32, y: i32) -> i32
     requires { ⌜ Addressed place x y ⌝ }
     ensures { λ r. ⌜ r ≡ pel1Of place x y ⌝ }
 {
-    plane_view::pel1_of(bytes, place, x, y) as i32
+    plane_view::pel1_of(bytes, place, x as i64, y as i64) as i32
 }
 
 // The active slot is written with a place.

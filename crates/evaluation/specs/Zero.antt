@@ -17,11 +17,11 @@ use Rattle.best.specs.declared.Best.{Best}
 use Rattle.best.specs.Fair.{Comparable}
 use Rattle.best.specs.Zero.{AgreeAt, zero-where-agreed, zero-only}
 use Rattle.evaluation.specs.declared.Request.{Request}
-use Rattle.evaluation.specs.Evaluated.{taskOf, bestAt, evaluateAnswer, evaluateBests}
+use Rattle.evaluation.specs.Evaluated.{taskOf, bestAt, fifthAt, evaluateAnswer, evaluateBests}
 use Rattle.evaluation.specs.Accepted.{Accepted, accepted}
 use Rattle.evaluation.specs.BestsRead.{Reads, best-reads}
 
--- ---- what is said of the buffer `bests`, four numbers a record: x, y, SAD, average
+-- ---- what is said of the buffer `bests`, five numbers a record: x, y, SAD, average and the count
 abbrev pub ZeroLaw : Request → List ℤ → List ℕ → List ℕ → List ℕ → List ℕ → List ℕ → List ℕ → List ℤ → Type 0
 ZeroLaw q records luma u v referenceLuma referenceU referenceV bests =
     (i : ℕ) → i < length records / wordsPerRecord → isBad (recordAt records i) ≡ true → (q .pel ≡ pos 2) ⊎ (q .pel ≡ pos 4) →
@@ -49,10 +49,14 @@ module _ (q : Request) (records : List ℤ) (luma u v referenceLuma referenceU r
     abbrev best : Best
     best = bestAt (taskOf q) records luma u v referenceLuma referenceU referenceV i
 
-    reads : Reads after i best
+    abbrev fifth : ℤ
+    fifth = fifthAt (taskOf q) records luma u v referenceLuma referenceU referenceV i
+
+    -- what stands there for record i
+    pub reads : Reads after i best fifth
     unfolding evaluateBests
     reads =
-        subst (λ (l : List ℤ). Reads l i best) (sym (kept-done _ _ bests done))
+        subst (λ (l : List ℤ). Reads l i best fifth) (sym (kept-done _ _ bests done))
         (best-reads (taskOf q) records luma u v referenceLuma referenceU referenceV (length records / wordsPerRecord) i
         (drop (numbersPerBest * (length records / wordsPerRecord)) bests) there)
 

@@ -1,6 +1,6 @@
 // Evaluating: the refusals in the table's order, and then the best of every record.
-use best::Best;
 use best::Task;
+use five_numbers::Five;
 use plane::Place;
 use planes::Planes;
 use planes::Sides;
@@ -164,18 +164,18 @@ fn refusal(
 }
 
 // ---- writing
-fn put(bests: &mut [i32], at: usize, best: Best)
+fn put(bests: &mut [i32], at: usize, five: Five)
     requires { ⌜ at + numbersPerBest ≤ length (now bests) ⌝ }
-    ensures { λ _. ⌜ now (bests .exit) ≡ paste (now (bests .entry)) at (bestList best) numbersPerBest ⌝ }
+    ensures { λ _. ⌜ now (bests .exit) ≡ paste (now (bests .entry)) at (bestList five) numbersPerBest ⌝ }
 {
+    let best = five.best;
+    let outside = five.outside;
     let x = best.x;
     let y = best.y;
     let sad = best.sad;
     let average = best.average;
-    bests[at] = x;
-    bests[at + 1] = y;
-    bests[at + 2] = sad;
-    bests[at + 3] = average;
+    let fifth = five_numbers::number_of(outside);
+    put_numbers::put_five(bests, at, x, y, sad, average, fifth);
 }
 
 fn write_all(
@@ -197,7 +197,7 @@ fn write_all(
     let mut i: usize = 0;
     while i < n {
         let given = record_slice::record_at(records, i);
-        let best = best::best_of(
+        let five = five_numbers::five_of(
             task,
             given,
             luma,
@@ -207,7 +207,7 @@ fn write_all(
             reference_u,
             reference_v,
         );
-        put(bests, limits::NUMBERS_PER_BEST * i, best);
+        put(bests, limits::NUMBERS_PER_BEST * i, five);
         i += 1;
     }
 }

@@ -18,7 +18,7 @@ pub record Grid (nx ny : ℤ) : Type 0 where
 
 -- entries that can be written into a buffer which has so many numbers for each block
 pub record Placed (each : ℕ) (buffer indices bests : List ℤ) : Type 0 where
-  pub four-each : length bests ≡ numbersPerBest * length indices
+  pub five-each : length bests ≡ numbersPerBest * length indices
   pub above : (n : ℕ) → n < length indices → ltZ (indexAt indices n) (pos 0) ≡ false
   pub below : (n : ℕ) → n < length indices → each * blockAt indices n + each ≤ length buffer
 

@@ -13,7 +13,7 @@ abbrev zeros : List ℤ → List ℤ
 zeros tail = pos 0 ∷ pos 0 ∷ pos 0 ∷ pos 0 ∷ pos 0 ∷ pos 0 ∷ pos 0 ∷ pos 0 ∷ tail
 
 abbrev two-bests : List ℤ
-two-bests = pos 2 ∷ pos 3 ∷ pos 6 ∷ pos 8 ∷ pos 1 ∷ negsuc 0 ∷ pos 5 ∷ pos 9 ∷ []
+two-bests = pos 2 ∷ pos 3 ∷ pos 6 ∷ pos 8 ∷ negsuc 0 ∷ pos 1 ∷ negsuc 0 ∷ pos 5 ∷ pos 9 ∷ pos 192 ∷ []
 
 -- the later best is (1,-1) with SAD 5 and average 9: its output word is 65535, its score word 9 x 2^24 + 5
 pub later-in-vectors : finishVectors (pos 2) (pos 2) (pos 1 ∷ pos 1 ∷ []) two-bests (pos 4404) true (zeros (pos 0 ∷ pos 0 ∷ pos 0 ∷ pos 4 ∷ [])) 9
@@ -28,7 +28,7 @@ later-in-output = refl
 
 -- ---- each refusal, beside the input that is one step inside: a grid of so many by 2 blocks, one entry, output asked for
 abbrev answerOf : ℤ → ℤ → ℤ → ℤ → ℤ → ℕ → ℕ → ℕ
-answerOf side index x y diagonal held room = finishAnswer side (pos 2) (index ∷ []) (x ∷ y ∷ pos 0 ∷ pos 0 ∷ []) diagonal true held room
+answerOf side index x y diagonal held room = finishAnswer side (pos 2) (index ∷ []) (x ∷ y ∷ pos 0 ∷ pos 0 ∷ pos 0 ∷ []) diagonal true held room
 
 pub inside : answerOf (pos 2) (pos 3) (pos 32767) (negsuc 32767) (pos 1) 12 8 ≡ 0
 unfolding finishAnswer anyUpto
@@ -87,12 +87,12 @@ pub unasked-diagonal-0 : finishAnswer (pos 2) (pos 2) [] [] (pos 0) false 12 0 �
 unfolding finishAnswer
 unasked-diagonal-0 = refl
 
-pub bests-of-3 : finishAnswer (pos 2) (pos 2) (pos 0 ∷ []) (pos 1 ∷ pos 2 ∷ pos 3 ∷ []) (pos 1) false 12 0 ≡ 5
+pub bests-of-4 : finishAnswer (pos 2) (pos 2) (pos 0 ∷ []) (pos 1 ∷ pos 2 ∷ pos 3 ∷ pos 4 ∷ []) (pos 1) false 12 0 ≡ 5
 unfolding finishAnswer anyUpto
-bests-of-3 = refl
+bests-of-4 = refl
 
 -- the second best alone does not fit
-pub second-best-wild : finishAnswer (pos 2) (pos 2) (pos 0 ∷ pos 0 ∷ []) (pos 1 ∷ pos 2 ∷ pos 3 ∷ pos 4 ∷ pos 32768 ∷ pos 2 ∷ pos 3 ∷ pos 4 ∷ [])
+pub second-best-wild : finishAnswer (pos 2) (pos 2) (pos 0 ∷ pos 0 ∷ []) (pos 1 ∷ pos 2 ∷ pos 3 ∷ pos 4 ∷ pos 5 ∷ pos 32768 ∷ pos 2 ∷ pos 3 ∷ pos 4 ∷ pos 5 ∷ [])
     (pos 1) false 12 0 ≡ 7
 unfolding finishAnswer anyUpto
 second-best-wild = refl

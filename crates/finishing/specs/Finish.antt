@@ -13,7 +13,7 @@ use Rattle.whole.specs.Numbers.{fitsI16}
 use Rattle.limits.specs.Refusals.{first, anyUpto, kept}
 use Rattle.score.specs.Score.{outputWord, packedScore}
 
--- ---- an entry: its index, and its best's four numbers
+-- ---- an entry: its index, and the four of its best's five numbers that are looked at: 02, Two, "finishing ignores the fifth"
 abbrev pub indexAt : List ℤ → ℕ → ℤ
 indexAt indices n = getD indices n (pos 0)
 
@@ -81,7 +81,7 @@ anyStray blocks indices entries = anyUpto (λ n. isStray blocks (indexAt indices
 abbrev pub refused4 : ℤ → ℤ → List ℤ → Bool
 refused4 nx ny indices = anyStray (pos (blocksOf nx ny)) indices (length indices)
 
--- 5: "a lent output is too short", where it is asked for, or bests aren't "4 numbers for each index"
+-- 5: "a lent output is too short", where it is asked for, or bests aren't "five numbers for each index"
 abbrev pub refused5 : ℤ → ℤ → List ℤ → List ℤ → Bool → ℕ → Bool
 refused5 nx ny indices bests asked room = asked && ltb room (2 * blocksOf nx ny) || not (eqb (length bests) (numbersPerBest * length indices))
 

@@ -5,4 +5,5 @@ pub mod Written
 pub mod Served
 pub mod Outcome
 pub mod Finished
+pub mod FifthIgnored
 pub mod Examples

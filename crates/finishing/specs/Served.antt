@@ -57,7 +57,7 @@ pub record Passed (nx ny : ℤ) (indices bests : List ℤ) (diagonal : ℤ) (ask
   pub diagonal-above : ltZ (pos 0) diagonal ≡ true
   pub inside : (n : ℕ) → n < length indices → Inside (blocksOf nx ny) (indexAt indices n)
   pub room-is : asked ≡ true → 2 * blocksOf nx ny ≤ room
-  pub four-each : length bests ≡ numbersPerBest * length indices
+  pub five-each : length bests ≡ numbersPerBest * length indices
   pub tame : (n : ℕ) → n < length indices → (fitsI16 (xAt bests n) && fitsI16 (yAt bests n)) ≡ true
 
 module _ (nx ny : ℤ) (indices bests : List ℤ) (diagonal : ℤ) (asked : Bool) (held room : ℕ) where
@@ -81,7 +81,7 @@ module _ (nx ny : ℤ) (indices bests : List ℤ) (diagonal : ℤ) (asked : Bool
         diagonal-above = omega signed;
         inside = λ n h. inside-of blocks (indexAt indices n) (each-fails (λ k. isStray (pos blocks) (indexAt indices k)) entries n (four .0) h);
         room-is = λ t. enough blocks t (neither-first short (not alike) (five .0));
-        four-each = eqb-true (length bests) (numbersPerBest * entries) (not-false alike (neither-second short (not alike) (five .0)));
+        five-each = eqb-true (length bests) (numbersPerBest * entries) (not-false alike (neither-second short (not alike) (five .0)));
         tame = λ n h. not-false (fitsI16 (xAt bests n) && fitsI16 (yAt bests n)) (each-fails (λ k. isWild (xAt bests k) (yAt bests k)) entries n (seven .0) h);
       }
     where
@@ -92,7 +92,7 @@ module _ {nx ny : ℤ} {indices bests : List ℤ} {diagonal : ℤ} {asked : Bool
   pub placed : (each : ℕ) (buffer : List ℤ) → ((n : ℕ) → n < blocksOf nx ny → each * n + each ≤ length buffer) → Placed each buffer indices bests
   placed each buffer enough =
       record {
-        four-each = p .four-each;
+        five-each = p .five-each;
         above = λ n h. p .inside n h .above;
         below = λ n h. enough (blockAt indices n) (p .inside n h .below);
       }

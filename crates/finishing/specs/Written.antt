@@ -47,3 +47,11 @@ vectors-long indices bests vectors n = unchanged (storing indices bests) vectors
 pub output-long : (indices bests : List ℤ) (diagonal : ℤ) (output : List ℤ) (n : ℕ) →
     length (writtenUpto (putting indices bests diagonal) output n) ≡ length output
 output-long indices bests diagonal output n = unchanged (putting indices bests diagonal) output length n (λ m s h. simp length-set)
+
+-- ---- two ways of writing that do the same at each entry
+pub written-alike : (f g : ℕ → List ℤ → List ℤ) (buffer : List ℤ) (n : ℕ) → ((i : ℕ) (held : List ℤ) → i < n → f i held ≡ g i held) →
+    writtenUpto f buffer n ≡ writtenUpto g buffer n
+unfolding writtenUpto
+written-alike f g buffer zero h = refl
+written-alike f g buffer (suc n) h =
+    h n (writtenUpto f buffer n) (omega arith) ∙ ap (g n) (written-alike f g buffer n (λ i held l. h i held (omega arith)))

@@ -144,11 +144,7 @@ fn put_place(numbers: &mut [i32], at: usize, place: Place)
     let width = place.width;
     let height = place.height;
     let pel = place.pel;
-    numbers[at] = base as i32;
-    numbers[at + 1] = pitch;
-    numbers[at + 2] = width;
-    numbers[at + 3] = height;
-    numbers[at + 4] = pel;
+    put_numbers::put_five(numbers, at, base as i32, pitch, width, height, pel);
 }
 
 // Luma's five numbers, U's and V's.

@@ -8,6 +8,6 @@ wordsPerRecord = 12
 abbrev pub bytesPerRecord : ℕ
 bytesPerRecord = 4 * wordsPerRecord
 
--- a record's best: "x, y, SAD, average"
+-- a record's best: "x, y, SAD, average", and 02, Two: "Each best gains a fifth number"
 abbrev pub numbersPerBest : ℕ
-numbersPerBest = 4
+numbersPerBest = 5

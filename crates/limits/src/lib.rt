@@ -10,7 +10,7 @@ pub const WORDS_PER_RECORD: usize = 12;
 
 pub const BYTES_PER_RECORD: usize = 4 * WORDS_PER_RECORD;
 
-pub const NUMBERS_PER_BEST: usize = 4;
+pub const NUMBERS_PER_BEST: usize = 5;
 
 pub fn is_grid_side(side: i32) -> bool
     ensures { λ r. ⌜ r ≡ isGridSide side ⌝ }

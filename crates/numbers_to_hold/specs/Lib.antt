@@ -1,4 +1,5 @@
 pub mod Rows
 pub mod Refusals
 pub mod Levels
+pub mod Absences
 pub mod Table

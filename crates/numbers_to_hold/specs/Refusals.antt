@@ -78,7 +78,7 @@ request height param =
     }
 
 abbrev evaluate : ℤ → ℤ → List ℤ → ℕ → ℕ
-evaluate height param records luma = evaluation.refusalOf (request height param) records luma 64 64 256 64 64 4
+evaluate height param records luma = evaluation.refusalOf (request height param) records luma 64 64 256 64 64 5
 
 -- The x window is the pair (0, greatest).
 abbrev window : ℤ → List ℤ
@@ -90,7 +90,7 @@ wide = window (pos 8)
 
 -- ---- finishing one best of a grid
 abbrev finish : ℤ → ℤ → ℤ → ℤ → ℕ → ℕ
-finish nx index x diagonal room = finishAnswer nx (pos 2) (index ∷ []) (x ∷ pos 0 ∷ pos 0 ∷ pos 0 ∷ []) diagonal true 12 room
+finish nx index x diagonal room = finishAnswer nx (pos 2) (index ∷ []) (x ∷ pos 0 ∷ pos 0 ∷ pos 0 ∷ negsuc 0 ∷ []) diagonal true 12 room
 
 -- ---- a plan file of 80 bytes: one BAD record, radius 1, and what its two lines answer in a line of so many bytes
 abbrev file : ℤ → List ℕ
@@ -149,10 +149,13 @@ refusals =
     ∷ gives (planning.refusalOf (searching (pos 0)) (order (pos 2)) (vectors (pos 0)) 256 64 64 48 4) 4
     ∷ gives (finish (pos 2) (pos 4) (pos 0) (pos 1) 8) 4
     ∷ gives (blockRefusal (pos 2) (pos 2) (pos 4)) 4
-    -- "5: a lent output is too short, or records aren't 12 words or bests 4 numbers for each index (evaluation has no indices: not a multiple of 12 words)"
+    -- "5: a lent output is too short, or records aren't 12 words or bests" five (02, Two) "numbers for each index (evaluation has no indices: not a multiple of 12
+    -- words)": four numbers of one best are 5, of evaluating as of finishing
     ∷ gives (planning.refusalOf (searching (pos 0)) (order (pos 0)) (vectors (pos 0)) 256 64 64 47 4) 5
     ∷ gives (planning.refusalOf (searching (pos 0)) (order (pos 0)) (vectors (pos 0)) 256 64 64 48 3) 5
     ∷ gives (evaluate (pos 8) (pos 0) (pos 0 ∷ []) 256) 5
+    ∷ gives (evaluation.refusalOf (request (pos 8) (pos 1)) (window (pos 2)) 256 64 64 256 64 64 4) 5
+    ∷ gives (finishAnswer (pos 2) (pos 2) (pos 0 ∷ []) (replicate 4 (pos 0)) (pos 1) false 12 0) 5
     ∷ gives (finish (pos 2) (pos 0) (pos 0) (pos 1) 7) 5
     ∷ gives (orderRefusal (pos 2) (pos 2) 7) 5
     -- "6: in planning or packing, a record doesn't fit": lambda 2^30 has the quarter 2^28

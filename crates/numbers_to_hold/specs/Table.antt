@@ -21,6 +21,10 @@ use Rattle.score.specs.Diagonal.{diagonalOf, diagonalAnswer}
 use Rattle.score.specs.Score.{outputWord, packedScore, scoreAnswer}
 use Rattle.plane.specs.declared.Place.{Place}
 use Rattle.plane.specs.Places.{subpelOf}
+use Rattle.plane.specs.Samples.{readAt}
+use Rattle.absent_reads.specs.Absent.{absence, absentIn}
+use Rattle.tables.specs.Tables.{vectorOffset}
+use Rattle.five_numbers.specs.Five.{numberOf, lumaAbsent, planeAbsent, chromaAbsent, absentAt}
 use Rattle.axis.specs.declared.Axis.{Axis}
 use Rattle.axis.specs.Axis.{excessOf, placeOf, windowOf}
 use Rattle.block.specs.Shapes.{lambdaOf, negativeOf, axisOf, shapeOf, chromaPlace, spotOf}
@@ -46,6 +50,7 @@ use Rattle.answer_bytes.specs.Slots.{slotsAnswer}
 use Rattle.numbers_to_hold.specs.Rows.{Row, is, Every, every-of}
 use Rattle.numbers_to_hold.specs.Refusals.{refusals}
 use Rattle.numbers_to_hold.specs.Levels.{ofLevels}
+use Rattle.numbers_to_hold.specs.Absences.{ofAbsences}
 
 -- ---- answers as numbers: 01's number, and the values where it is 0
 abbrev pairAnswer : PackedPair → List ℤ
@@ -141,9 +146,9 @@ numbersToHold =
     ∷ is (subpelOf small (negsuc 0) (pos 0) ∷ []) (pos 31 ∷ [])
     ∷ []
 
--- ---- the theorem, of these, of the refusals that the paper states as numbers, and of 02's levels
-pub all-hold : Every (numbersToHold ++ refusals ++ ofLevels)
-unfolding numbersToHold refusals ofLevels packedPair packedRecord recordFits recordWords numbers walk each row sum sumZ hadamardAt tileSum diagonalAnswer
+-- ---- the theorem, of these, of the refusals that the paper states as numbers, and of 02's levels and absent samples
+pub all-hold : Every (numbersToHold ++ refusals ++ ofLevels ++ ofAbsences)
+unfolding numbersToHold refusals ofLevels ofAbsences packedPair packedRecord recordFits recordWords numbers walk each row sum sumZ hadamardAt tileSum diagonalAnswer
     diagonalOf rootOf scoreAnswer packedScore excessOf placeOf windowOf subpelOf planning.refusalOf planning.holds1 planning.holds2 holds3
     planning.axisHolds chromaHolds planesHold planning.vectorFits planning.entryHolds allFit turnAt blockAt slotsAt stepOf stepWith quietStep quietRecord
     badStep badRecord filledWith settledAt spotOf chromaPlace negativeOf axisOf shapeOf evaluation.refusalOf evaluation.holds1 evaluation.holds2
@@ -151,4 +156,5 @@ unfolding numbersToHold refusals ofLevels packedPair packedRecord recordFits rec
     planOf isPlanFile trailerHolds trailerOf headOf tally wordsUpto headText lineText headAnswer lineAnswer decimal digits digitsBy wordAt bytesOf
     costNumber slotsAnswer levels.levelAnswer levels.refusalOf levels.holds2 levels.rawPitchesHold levels.pitchesHold levels.allHaveSides levels.hasSides
     levels.lengthsKept places.sizeAfter places.wholeRows places.finestRows places.levelRows places.reducedRows places.cutAt places.placeOf places.planesOf
-all-hold = every-of (numbersToHold ++ refusals ++ ofLevels) refl
+    numberOf absentAt lumaAbsent planeAbsent chromaAbsent absentIn absence readAt vectorOffset
+all-hold = every-of (numbersToHold ++ refusals ++ ofLevels ++ ofAbsences) refl

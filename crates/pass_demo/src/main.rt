@@ -15,8 +15,12 @@ use records::Pair;
 use records::Record;
 ghost use Prim.Native.Nat.{_<_};
 
-// ---- the frames: 48x32, with a bar 16 wide that stands 2 further right in the reference
+// ---- the frames: 48x32, with a bar 16 wide that stands 2 further right in the reference, and black
+// from column 40 on
 fn still(x: usize, y: usize) -> u8 {
+    if 40 <= x {
+        return 0;
+    }
     (40 + x % 48 + y % 32) as u8
 }
 
@@ -141,7 +145,8 @@ fn known() -> [i32; 72] {
     vectors
 }
 
-// The others have a wrong predictor, one of them too near the frame's edge, and a high SAD.
+// The others have a wrong predictor, one of them too near the frame's edge, and a high SAD. Two lie in
+// the black: the one in the corner has a predictor that leads out of the frame.
 fn predictors() -> [i32; 72] {
     let mut vectors = known();
     give(&mut vectors, 3, 1, 0, 700);
@@ -151,6 +156,8 @@ fn predictors() -> [i32; 72] {
     give(&mut vectors, 14, 0, 0, 2500);
     give(&mut vectors, 20, 0, 0, 400);
     give(&mut vectors, 21, 1, 0, 700);
+    give(&mut vectors, 11, 0, 1, 400);
+    give(&mut vectors, 23, 0, 40, 400);
     vectors
 }
 
@@ -261,7 +268,7 @@ fn show_story(given: Record) {
     io::write_all(1, b"\n");
 }
 
-fn show_block(records: &[i32; 288], order: &[i32; 48], bests: &[i32; 96], k: usize)
+fn show_block(records: &[i32; 288], order: &[i32; 48], bests: &[i32; 120], k: usize)
     requires { ⌜ k < 24 ⌝ }
 {
     let given = record_slice::record_at(records, k);
@@ -274,6 +281,7 @@ fn show_block(records: &[i32; 288], order: &[i32; 48], bests: &[i32; 96], k: usi
         8,
     );
     show_number(bests[limits::NUMBERS_PER_BEST * k + 2], 7);
+    show_number(bests[limits::NUMBERS_PER_BEST * k + 4], 7);
     let full = given.full;
     let overlay = given.overlay;
     let average = given.average;
@@ -283,10 +291,10 @@ fn show_block(records: &[i32; 288], order: &[i32; 48], bests: &[i32; 96], k: usi
     show_story(given);
 }
 
-fn show_blocks(records: &[i32; 288], order: &[i32; 48], bests: &[i32; 96]) {
+fn show_blocks(records: &[i32; 288], order: &[i32; 48], bests: &[i32; 120]) {
     io::write_all(
         1,
-        b"block predictor  chosen    SAD    full overlay average\n",
+        b"block predictor  chosen    SAD absent    full overlay average\n",
     );
     for k in 0..24 {
         show_block(records, order, bests, k);
@@ -308,8 +316,12 @@ fn show_grid(vectors: &[i32; 72]) {
     }
 }
 
-// The bar is brighter than 127.
+// The bar is brighter than 127, and black is 0.
 fn show_sample(sample: u8) {
+    if sample == 0 {
+        io::write_all(1, b"_");
+        return;
+    }
     if sample < 128 {
         io::write_all(1, b".");
         return;
@@ -323,6 +335,21 @@ fn show_row(luma: &[u8; 1536]) {
         show_sample(luma[768 + x]);
     }
     io::write_all(1, b"\n");
+}
+
+fn explain_absent() {
+    io::write_all(
+        1,
+        b"`absent`: how many of the reference's samples at the vector chosen lie outside\n",
+    );
+    io::write_all(
+        1,
+        b"its data, -1 for a block that was not searched. At the right all is black (`_`):\n",
+    );
+    io::write_all(
+        1,
+        b"5,1 is matched with black; 5,3 has SAD 0 too, and its match has no sample.\n",
+    );
 }
 
 fn explain() {
@@ -350,6 +377,7 @@ fn explain() {
         1,
         b"sample is there, which is not the number 0. Half blocks answer a tripled SAD.\n",
     );
+    explain_absent();
     io::write_all(1, b"\n");
 }
 
@@ -390,7 +418,7 @@ fn show_frames(source: &[u8; 1536], reference: &[u8; 1536]) {
 fn show_pass(
     records: &[i32; 288],
     order: &[i32; 48],
-    bests: &[i32; 96],
+    bests: &[i32; 120],
     before: &[i32; 72],
     after: &[i32; 72],
 ) {
@@ -406,7 +434,7 @@ fn show_pass(
 }
 
 // ---- the three steps
-fn evaluated(records: &[i32; 288], bests: &mut [i32; 96]) -> u32 {
+fn evaluated(records: &[i32; 288], bests: &mut [i32; 120]) -> u32 {
     let luma = luma_plane(20);
     let chroma = chroma_plane(20);
     let reference = luma_plane(22);
@@ -425,7 +453,7 @@ fn evaluated(records: &[i32; 288], bests: &mut [i32; 96]) -> u32 {
     )
 }
 
-fn finished(diagonal: i32, indices: &[i32; 24], bests: &[i32; 96], vectors: &mut [i32; 72]) -> u32 {
+fn finished(diagonal: i32, indices: &[i32; 24], bests: &[i32; 120], vectors: &mut [i32; 72]) -> u32 {
     let mut output = [0i32; 48];
     finishing::finish(6, 4, indices, bests, diagonal, true, vectors, &mut output)
 }
@@ -434,7 +462,7 @@ fn finished(diagonal: i32, indices: &[i32; 24], bests: &[i32; 96], vectors: &mut
 fn show_rest(diagonal: i32, order: &[i32; 48], records: &[i32; 288], indices: &[i32; 24]) {
     let before = predictors();
     let mut vectors = predictors();
-    let mut bests = [0i32; 96];
+    let mut bests = [0i32; 120];
     let number = evaluated(records, &mut bests);
     if number != 0 {
         refused(number);

@@ -7,13 +7,13 @@ use lib.Dec.{T, ltb, leb, ltb→lt, lit≤}
 use lib.Bits.{bitAnd}
 use lib.IntN.{ℤ, pos, _-ℤ_, natAbs}
 use lib.Signed.{mag}
-use mir.Syntax.{Width, w32, w64}
+use mir.Syntax.{Width, w64}
 use mir.Val.{SFits, toZ, ofZ, hbits}
 use mir.Facts.{toZ-pos}
 use Rattle.limits.specs.Ranges.{at-each-pel}
 use Rattle.whole.specs.Numbers.{modZ}
-use Rattle.whole.specs.Signed.{got}
-use Rattle.whole.specs.Interval.{Within, within-more, Is}
+use Rattle.whole.specs.Signed.{got, range}
+use Rattle.whole.specs.Interval.{Within, within-more, Is, is-arg}
 use Rattle.whole.specs.Wrapping.{masked}
 use Rattle.limits.specs.Limits.{isPel}
 
@@ -33,11 +33,15 @@ is-natural {w} h l t = record { same = toZ-pos w (omega (arith, ltb→lt h (2 ^ 
 pub is-answer : {w : Width} {l h : ℕ} {z y : ℤ} → mag z < 2 ^ hbits w → z ≡ y → Within l h y → Is w l h (toZ w (ofZ w z)) y
 is-answer {w} small e lies = record { same = got w small e; lies = lies }
 
+-- a parameter of 64 bits
+pub long : {x : ℤ} → SFits w64 x → Is w64 9223372036854775808 9223372036854775807 (as-64 x) x
+long f = is-arg f (omega (arith, range f))
+
 -- a mask of pel - 1 leaves the remainder by pel
-pub masked-by-pel : {x : ℤ} → SFits w32 x → (pel : ℤ) → isPel pel ≡ true → toZ w32 (bitAnd (ofZ w32 x) (ofZ w32 (pel -ℤ pos 1))) ≡ pos (modZ x (natAbs pel))
+pub masked-by-pel : {x : ℤ} → SFits w64 x → (pel : ℤ) → isPel pel ≡ true → toZ w64 (bitAnd (ofZ w64 x) (ofZ w64 (pel -ℤ pos 1))) ≡ pos (modZ x (natAbs pel))
 masked-by-pel {x} f pel e =
-    at-each-pel (λ (k : ℤ). toZ w32 (bitAnd (ofZ w32 x) (ofZ w32 (k -ℤ pos 1))) ≡ pos (modZ x (natAbs k)))
-    (masked w32 0 4294967296 refl (lit≤ tt) f)
-    (masked w32 1 2147483648 refl (lit≤ tt) f)
-    (masked w32 2 1073741824 refl (lit≤ tt) f)
+    at-each-pel (λ (k : ℤ). toZ w64 (bitAnd (ofZ w64 x) (ofZ w64 (k -ℤ pos 1))) ≡ pos (modZ x (natAbs k)))
+    (masked w64 0 18446744073709551616 refl (lit≤ tt) f)
+    (masked w64 1 9223372036854775808 refl (lit≤ tt) f)
+    (masked w64 2 4611686018427387904 refl (lit≤ tt) f)
     pel e

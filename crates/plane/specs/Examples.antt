@@ -7,7 +7,8 @@ use Prim.Native.Nat.{ℕ}
 use lib.IntN.{ℤ, pos, negsuc}
 use Rattle.plane.specs.declared.Place.{Place}
 use Rattle.plane.specs.Places.{subpelOf, keepsLength, limitsHold}
-use Rattle.plane.specs.Samples.{Inside, Outside, readAt, weight, log2}
+use Rattle.plane.specs.declared.Read.the-variants.{Inside, Outside}
+use Rattle.plane.specs.Samples.{readAt, weight, log2}
 
 abbrev place : ℤ → Place
 place pel = record { base = 0; pitch = pos 8; width = pos 8; height = pos 4; pel = pel }

@@ -6,18 +6,16 @@ use native.Mathlib.Omega.{arith}
 use lib.Dec.{leb, lit<}
 use lib.IntN.{ℤ, pos, negsuc, _+ℤ_, _-ℤ_, _*ℤ_, negℤ, natAbs}
 use lib.Signed.{shrZ, leZ, ltZ, _≤ℤ_}
-use mir.Syntax.{w32}
-use mir.Val.{SFits}
 use borrow.Author.Tests.{leb-true, leb-false}
 use Rattle.whole.specs.Numbers.{modZ}
 use Rattle.whole.specs.Signed.{P, N, signed, add-is, diff-is, abs-is}
 use Rattle.whole.specs.Truth.{left-of, right-of, lies-low, lies-high}
-use Rattle.whole.specs.Floor.{mod-below, fit-floor}
-use Rattle.whole.specs.Interval.{Within, within-32, within-more, within-add, within-times}
+use Rattle.whole.specs.Floor.{mod-below}
+use Rattle.whole.specs.Interval.{Within, within-more, within-add, within-times, within-shr}
 use Rattle.limits.specs.Limits.{isPel, isPitch, isLength, greatestLength}
 use Rattle.limits.specs.Ranges.{at-each-pel, pel-within}
 use Rattle.plane.specs.declared.Place.{Place}
-use Rattle.plane.specs.Places.{limitsHold, lastEnd, keepsLength, pel1Of, subpelOf, Placed, Near}
+use Rattle.plane.specs.Places.{limitsHold, lastEnd, keepsLength, pel1Of, subpelOf, Placed, Coordinate, Near}
 
 -- ---- what a division by pel leaves
 pub mod-within : (pel : ℤ) → isPel pel ≡ true → (z : ℤ) → Within 0 3 (pos (modZ z (natAbs pel)))
@@ -58,16 +56,14 @@ natural-within : {n h : ℕ} → n ≤ h → Within h h (pos n)
 natural-within l = omega arith
 
 module _ (p : Place) (k : Placed p) where
-  pub pel1-within : {x y : ℤ} → SFits w32 x → SFits w32 y → Within 140741783322623 140741783322623 (pel1Of p x y)
-  pel1-within {x} {y} f g =
-      let column : Within 2147483648 2147483648 x = within-more (within-32 f) tt tt in
-      let row : Within 2147483648 2147483648 y = within-more (within-32 g) tt tt in
+  pub pel1-within : {x y : ℤ} → Coordinate x → Coordinate y → Within 262150147483647 262150147483647 (pel1Of p x y)
+  pel1-within column row =
       let pitch : Within 65536 65536 (p .pitch) = within-more (k .pitch-in) tt tt in
       within-add (within-add (natural-within (k .base-in)) (within-times row pitch)) column
 
-  pub subpel-near : {x y : ℤ} → SFits w32 x → SFits w32 y → Near (subpelOf p x y)
+  pub subpel-near : {x y : ℤ} → Coordinate x → Coordinate y → Near (subpelOf p x y)
   unfolding subpelOf
-  subpel-near {x} {y} f g =
+  subpel-near {x} {y} column row =
       let pel = natAbs (p .pel) in
       let left : (z : ℤ) → Within 3 3 (pos (modZ z pel)) = λ z. within-more (mod-within (p .pel) (k .pel-in) z) tt tt in
       let by-pel : Within 4 4 (p .pel) = within-more (pel-within (p .pel) (k .pel-in)) tt tt in
@@ -75,7 +71,7 @@ module _ (p : Place) (k : Placed p) where
       let height : Within 16384 16384 (p .height) = within-more (k .height-in) tt tt in
       within-more
       (within-add
-      (pel1-within (fit-floor pel f) (fit-floor pel g))
+      (pel1-within (within-shr pel column) (within-shr pel row))
       (within-times (within-times (within-add (left x) (within-times by-pel (left y))) pitch) height))
       tt tt
 

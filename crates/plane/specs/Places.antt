@@ -33,13 +33,23 @@ subpelOf p x y =
     let pel = natAbs (p .pel) in
     pel1Of p (shrZ x pel) (shrZ y pel) +ℤ (pos (modZ x pel) +ℤ p .pel *ℤ pos (modZ y pel)) *ℤ p .pitch *ℤ p .height
 
--- ---- what an offset asks of its callers. An accepted plane has it all (Offsets, `accepted-placed`): its base lies in its data.
+-- ---- what an offset asks of its callers
+-- of the plane: an accepted one has it all (Offsets, `accepted-placed`), for its base lies in its data
 pub record Placed (p : Place) : Type 0 where
   pub base-in : p .base ≤ 2147483647
   pub pitch-in : Within 0 65536 (p .pitch)
   pub height-in : Within 0 16384 (p .height)
   pub pel-in : isPel (p .pel) ≡ true
 
--- An offset from -2^48 to 2^48. Every offset of a plane is (Offsets, `subpel-near`), so that a block's steps from it stay in 64 bits.
+-- of a coordinate: from -4,000,000,000 to 4,000,000,000. A position of 32 bits and a vector together are well within.
+abbrev pub Coordinate : ℤ → Type 0
+Coordinate z = Within 4000000000 4000000000 z
+
+pub record Located (p : Place) (x y : ℤ) : Type 0 where
+  pub placed : Placed p
+  pub x-in : Coordinate x
+  pub y-in : Coordinate y
+
+-- ---- an offset from -2^48 to 2^48. Every offset of a plane is (Offsets, `subpel-near`), so that a block's steps from it stay in 64 bits.
 abbrev pub Near : ℤ → Type 0
 Near z = Within 281474976710656 281474976710656 z

@@ -8,12 +8,10 @@ use lib.ListN.{getD, length, set, replicate}
 use Rattle.records.specs.declared.Offset.{Offset}
 use Rattle.records.specs.declared.Offset.the-variants.{At, Absent}
 use Rattle.distance.specs.Distance.{Block, sum}
+use Rattle.plane.specs.declared.Read.{Read}
+use Rattle.plane.specs.declared.Read.the-variants.{Inside, Outside}
 
 -- ---- a read: the byte there, or that the place is outside the data
-pub data Read : Type 0 where
-  Inside : ℕ → Read
-  Outside : Read
-
 abbrev within : Bool → ℕ → Read
 within true byte = Inside byte
 within false byte = Outside

@@ -10,8 +10,8 @@ ghost use lib.Signed.{shrZ};
 ghost use Rattle.whole.specs.Numbers.{modZ};
 ghost use Rattle.limits.specs.Limits.{isPel};
 ghost use Rattle.distance.specs.Distance.{blockOf, costOf};
-ghost use Rattle.plane.specs.Places.{limitsHold, keepsLength, pel1Of, subpelOf, Placed, Near};
-ghost use Rattle.plane.specs.Samples.{sampleAt, placedAt, placedFrom, nth, sourceAt, gathered, averageOf};
+ghost use Rattle.plane.specs.Places.{limitsHold, keepsLength, pel1Of, subpelOf, Located, Near};
+ghost use Rattle.plane.specs.Samples.{readAt, weight, sampleAt, placedAt, placedFrom, nth, sourceAt, gathered, averageOf};
 ghost use Rattle.plane.specs.Averages.{Power};
 
 // Laid out as C lays it out: a host hands it over by value.
@@ -22,6 +22,13 @@ pub struct Place {
     pub width: i32,
     pub height: i32,
     pub pel: i32,
+}
+
+// What was found at an offset: the byte there, or that the place is outside the data. A byte of 0 is
+// black; no byte is not.
+pub enum Read {
+    Inside(u8),
+    Outside,
 }
 
 // Refusal 2, but for the sides, which the entries ask about.
@@ -53,17 +60,18 @@ pub fn keeps_length(place: Place, length: usize) -> bool
     base <= room as usize
 }
 
-pub fn pel1(place: Place, x: i32, y: i32) -> i64
-    requires { ⌜ Placed place ⌝ }
+// Places are 64 bits wide: a position of 32 bits and a vector beside it may leave 32.
+pub fn pel1(place: Place, x: i64, y: i64) -> i64
+    requires { ⌜ Located place x y ⌝ }
     ensures { λ r. ⌜ r ≡ pel1Of place x y ⌝ }
 {
     let base = place.base;
     let pitch = place.pitch;
-    base as i64 + y as i64 * pitch as i64 + x as i64
+    base as i64 + y * pitch as i64 + x
 }
 
 // x divided by pel, rounding down.
-fn floored(x: i32, pel: i32) -> i32
+fn floored(x: i64, pel: i32) -> i64
     requires { ⌜ isPel pel ≡ true ⌝ }
     ensures { λ r. ⌜ r ≡ shrZ x (natAbs pel) ⌝ }
 {
@@ -77,44 +85,54 @@ fn floored(x: i32, pel: i32) -> i32
 }
 
 // What that leaves, from 0.
-fn remainder(x: i32, pel: i32) -> i32
+fn remainder(x: i64, pel: i32) -> i64
     requires { ⌜ isPel pel ≡ true ⌝ }
     ensures { λ r. ⌜ r ≡ pos (modZ x (natAbs pel)) ⌝ }
 {
-    x & (pel - 1)
+    x & (pel as i64 - 1)
 }
 
-pub fn subpel(place: Place, x: i32, y: i32) -> i64
-    requires { ⌜ Placed place ⌝ }
+pub fn subpel(place: Place, x: i64, y: i64) -> i64
+    requires { ⌜ Located place x y ⌝ }
     ensures { λ r. ⌜ r ≡ subpelOf place x y ⌝ }
 {
     let pitch = place.pitch;
     let height = place.height;
     let pel = place.pel;
-    let subplane = remainder(x, pel) + pel * remainder(y, pel);
-    pel1(place, floored(x, pel), floored(y, pel)) + subplane as i64 * pitch as i64 * height as i64
+    let subplane = remainder(x, pel) + pel as i64 * remainder(y, pel);
+    pel1(place, floored(x, pel), floored(y, pel)) + subplane * pitch as i64 * height as i64
 }
 
-// The byte at an offset, or 0 outside the data.
-pub fn sample(samples: &[u8], at: i64) -> u8
-    ensures { λ r. ⌜ r ≡ sampleAt (now (samples .entry)) at ⌝ }
+// The byte at an offset, or that there is none.
+pub fn sample(samples: &[u8], at: i64) -> Read
+    ensures { λ r. ⌜ r ≡ readAt (now (samples .entry)) at ⌝ }
 {
     if at < 0 {
-        return 0;
+        return Read::Outside;
     }
     let i = at as usize;
     if i < samples.len() {
-        return samples[i];
+        return Read::Inside(samples[i]);
     }
-    0
+    Read::Outside
 }
 
-// The same n bytes further on.
+// What a read counts in a cost. Only here does an absent sample become 0.
+pub fn weight(read: Read) -> u8
+    ensures { λ r. ⌜ r ≡ weight read ⌝ }
+{
+    let Read::Inside(byte) = read else {
+        return 0;
+    };
+    byte
+}
+
+// What counts n bytes further on.
 fn sample_on(samples: &[u8], at: i64, n: usize) -> u8
     requires { ⌜ Near at × (n < 1099511627776) ⌝ }
     ensures { λ r. ⌜ r ≡ sampleAt (now (samples .entry)) (at +ℤ pos n) ⌝ }
 {
-    sample(samples, at + n as i64)
+    weight(sample(samples, at + n as i64))
 }
 
 // The w x h samples from an offset on, one row behind the other.

@@ -1,4 +1,5 @@
 pub mod Parts
+pub mod Answers
 pub mod Making
 pub mod Above
 pub mod Offsets

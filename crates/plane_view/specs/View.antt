@@ -9,11 +9,13 @@ use lib.ListN.{length}
 use Rattle.distance.specs.Distance.{Block, costOf}
 use Rattle.plane.specs.declared.Place.{Place}
 use Rattle.plane.specs.Places.{subpelOf, Placed, Near}
-use Rattle.plane.specs.Samples.{readAt, weight, sampleAt, placedAt}
+use Rattle.plane.specs.declared.Read.{Read}
+use Rattle.plane.specs.declared.Read.the-variants.{Inside, Outside}
+use Rattle.plane.specs.Samples.{readAt, placedAt}
 
--- the sample of a plane at a place: that at the place's offset, "A read outside the data counts 0"
-abbrev pub placeSample : List ℕ → Place → ℤ → ℤ → ℕ
-placeSample bytes place x y = sampleAt bytes (subpelOf place x y)
+-- what is read of a plane at a place: the byte at the place's offset, or that there is none
+abbrev pub placeRead : List ℕ → Place → ℤ → ℤ → Read
+placeRead bytes place x y = readAt bytes (subpelOf place x y)
 
 -- the samples of a plane from an offset on, in rows that step by its own pitch, and the cost of a block against them
 abbrev pub placeBlock : List ℕ → Place → ℤ → Block
@@ -39,10 +41,10 @@ pub record Costed (place : Place) (w h : ℕ) (block : List ℕ) (at : ℤ) : Ty
 abbrev row : Place
 row = record { base = 0; pitch = pos 2; width = pos 2; height = pos 1; pel = pos 1 }
 
-pub second : placeSample (7 ∷ 9 ∷ []) row (pos 1) (pos 0) ≡ 9
-unfolding subpelOf sampleAt readAt weight
+pub second : placeRead (7 ∷ 9 ∷ []) row (pos 1) (pos 0) ≡ Inside 9
+unfolding subpelOf readAt
 second = refl
 
-pub none : placeSample (7 ∷ 9 ∷ []) row (negsuc 0) (pos 0) ≡ 0
-unfolding subpelOf sampleAt readAt weight
+pub none : placeRead (7 ∷ 9 ∷ []) row (negsuc 0) (pos 0) ≡ Outside
+unfolding subpelOf readAt
 none = refl

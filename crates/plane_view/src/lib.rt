@@ -2,11 +2,12 @@
 // refers to the bytes. Few functions take one, and each leaves its work to a function of plain
 // parameters. Who has a plane's parts calls the last five, and needs no view of his own.
 use plane::Place;
+use plane::Read;
 ghost use mathlib.Core.Path.{_≡_};
 ghost use lib.ListN.{length};
 ghost use Rattle.distance.specs.Distance.{blockOf};
-ghost use Rattle.plane.specs.Places.{keepsLength, pel1Of, subpelOf, Placed};
-ghost use Rattle.plane_view.specs.View.{placeSample, placeCost, Costed};
+ghost use Rattle.plane.specs.Places.{keepsLength, pel1Of, subpelOf, Located};
+ghost use Rattle.plane_view.specs.View.{placeRead, placeCost, Costed};
 
 struct PlaneView<'a> {
     pub bytes: &'a [u8],
@@ -20,9 +21,9 @@ fn length_holds(bytes: &[u8], place: Place) -> bool
     plane::keeps_length(place, bytes.len())
 }
 
-fn sample_at(bytes: &[u8], place: Place, x: i32, y: i32) -> u8
-    requires { ⌜ Placed place ⌝ }
-    ensures { λ r. ⌜ r ≡ placeSample (now (bytes .entry)) place x y ⌝ }
+fn sample_at(bytes: &[u8], place: Place, x: i64, y: i64) -> Read
+    requires { ⌜ Located place x y ⌝ }
+    ensures { λ r. ⌜ r ≡ placeRead (now (bytes .entry)) place x y ⌝ }
 {
     plane::sample(bytes, plane::subpel(place, x, y))
 }
@@ -57,23 +58,23 @@ fn keeps_length<'a>(view: PlaneView<'a>) -> bool
     length_holds(view.bytes, view.place)
 }
 
-fn pel1<'a>(view: PlaneView<'a>, x: i32, y: i32) -> i64
-    requires { ⌜ Placed (view .place) ⌝ }
+fn pel1<'a>(view: PlaneView<'a>, x: i64, y: i64) -> i64
+    requires { ⌜ Located (view .place) x y ⌝ }
     ensures { λ r. ⌜ r ≡ pel1Of (view .entry .place) x y ⌝ }
 {
     plane::pel1(view.place, x, y)
 }
 
-fn subpel<'a>(view: PlaneView<'a>, x: i32, y: i32) -> i64
-    requires { ⌜ Placed (view .place) ⌝ }
+fn subpel<'a>(view: PlaneView<'a>, x: i64, y: i64) -> i64
+    requires { ⌜ Located (view .place) x y ⌝ }
     ensures { λ r. ⌜ r ≡ subpelOf (view .entry .place) x y ⌝ }
 {
     plane::subpel(view.place, x, y)
 }
 
-fn sample<'a>(view: PlaneView<'a>, x: i32, y: i32) -> u8
-    requires { ⌜ Placed (view .place) ⌝ }
-    ensures { λ r. ⌜ r ≡ placeSample (now (view .entry .bytes)) (view .entry .place) x y ⌝ }
+fn sample<'a>(view: PlaneView<'a>, x: i64, y: i64) -> Read
+    requires { ⌜ Located (view .place) x y ⌝ }
+    ensures { λ r. ⌜ r ≡ placeRead (now (view .entry .bytes)) (view .entry .place) x y ⌝ }
 {
     sample_at(view.bytes, view.place, x, y)
 }
@@ -99,23 +100,23 @@ pub fn length_kept(bytes: &[u8], place: Place) -> bool
     keeps_length(view_of(bytes, place))
 }
 
-pub fn pel1_of(bytes: &[u8], place: Place, x: i32, y: i32) -> i64
-    requires { ⌜ Placed place ⌝ }
+pub fn pel1_of(bytes: &[u8], place: Place, x: i64, y: i64) -> i64
+    requires { ⌜ Located place x y ⌝ }
     ensures { λ r. ⌜ r ≡ pel1Of place x y ⌝ }
 {
     pel1(view_of(bytes, place), x, y)
 }
 
-pub fn subpel_of(bytes: &[u8], place: Place, x: i32, y: i32) -> i64
-    requires { ⌜ Placed place ⌝ }
+pub fn subpel_of(bytes: &[u8], place: Place, x: i64, y: i64) -> i64
+    requires { ⌜ Located place x y ⌝ }
     ensures { λ r. ⌜ r ≡ subpelOf place x y ⌝ }
 {
     subpel(view_of(bytes, place), x, y)
 }
 
-pub fn sample_of(bytes: &[u8], place: Place, x: i32, y: i32) -> u8
-    requires { ⌜ Placed place ⌝ }
-    ensures { λ r. ⌜ r ≡ placeSample (now (bytes .entry)) place x y ⌝ }
+pub fn sample_of(bytes: &[u8], place: Place, x: i64, y: i64) -> Read
+    requires { ⌜ Located place x y ⌝ }
+    ensures { λ r. ⌜ r ≡ placeRead (now (bytes .entry)) place x y ⌝ }
 {
     sample(view_of(bytes, place), x, y)
 }

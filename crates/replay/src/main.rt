@@ -14,6 +14,8 @@ enum Kind {
     Cost,
     Offset,
     Block,
+    Sample,
+    Absent,
     Choose,
     Score,
     Root,
@@ -39,6 +41,16 @@ fn is_word(word: &[u8], name: &[u8]) -> bool {
     all
 }
 
+fn kind_of_read(word: &[u8]) -> Kind {
+    if is_word(word, b"sample") {
+        return Kind::Sample;
+    }
+    if is_word(word, b"absent") {
+        return Kind::Absent;
+    }
+    Kind::Unknown
+}
+
 fn kind_of_level(word: &[u8]) -> Kind {
     if is_word(word, b"plane_size") {
         return Kind::PlaneSize;
@@ -46,7 +58,7 @@ fn kind_of_level(word: &[u8]) -> Kind {
     if is_word(word, b"level_offset") {
         return Kind::LevelOffset;
     }
-    Kind::Unknown
+    kind_of_read(word)
 }
 
 fn kind_of_grid(word: &[u8]) -> Kind {
@@ -114,6 +126,8 @@ fn agrees(kind: Kind, n: &[i64; 8200], inputs: usize, count: usize) -> bool {
         Kind::Root => replay_measures::root_agrees(n, inputs, count),
         Kind::Offset => replay_plane::offset_agrees(n, inputs, count),
         Kind::Block => replay_plane::block_agrees(n, inputs, count),
+        Kind::Sample => replay_plane::sample_agrees(n, inputs, count),
+        Kind::Absent => replay_plane::absent_agrees(n, inputs, count),
         Kind::Choose => replay_choosing::choose_agrees(n, inputs, count),
         Kind::SerpentinePosition => replay_grid::serpentine_position_agrees(n, inputs, count),
         Kind::SerpentineBlock => replay_grid::serpentine_block_agrees(n, inputs, count),

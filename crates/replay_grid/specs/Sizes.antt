@@ -14,9 +14,9 @@ blocksOf numbers =
     let ny = limitedTo 4096 (getD numbers 1 (pos 0)) in
     cond (leb (nx * ny) 4096) (nx * ny) 0
 
--- five numbers, and an index and a best for each entry
+-- five numbers, and an index and a best of five for each entry
 abbrev pub finishInputs : List ℤ → ℕ
-finishInputs numbers = 5 + 5 * limitedTo 50 (getD numbers 4 (pos 0))
+finishInputs numbers = 5 + 6 * limitedTo 50 (getD numbers 4 (pos 0))
 
 -- two words for each block where output is asked for
 abbrev pub outputOf : ℕ → ℕ → ℕ

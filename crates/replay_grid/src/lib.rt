@@ -88,12 +88,12 @@ pub fn serpentine_order_agrees(numbers: &[i64; 8200], inputs: usize, count: usiz
     cases::sized(inputs, count, 2, long) & is_order(numbers, &mut order[..long])
 }
 
-// The numbers from a place on. A case has at most 200 of them, its bests.
-fn words_from(numbers: &[i64; 8200], from: usize) -> [i32; 200]
+// The numbers from a place on. A case has at most 250 of them, its bests.
+fn words_from(numbers: &[i64; 8200], from: usize) -> [i32; 250]
     requires { ⌜ from ≤ 200 ⌝ }
 {
-    let mut out = [0i32; 200];
-    for k in 0..200 {
+    let mut out = [0i32; 250];
+    for k in 0..250 {
         out[k] = whole::wrap32(numbers[from + k]);
     }
     out
@@ -139,8 +139,8 @@ fn entries_agree(numbers: &[i64; 8200], n: usize, blocks: usize, room: usize) ->
     is_finished(
         numbers,
         &indices[..n],
-        &bests[..4 * n],
-        5 + 5 * n,
+        &bests[..5 * n],
+        5 + 6 * n,
         &mut vectors[..3 * blocks],
         &mut output[..room],
     )
@@ -162,5 +162,5 @@ pub fn finish_agrees(numbers: &[i64; 8200], inputs: usize, count: usize) -> bool
     let room = output_room(asked, grid);
     let told = (numbers[3] == asked as i64) & (numbers[4] == n as i64);
     let same = entries_agree(numbers, n, grid, room);
-    cases::sized(inputs, count, 5 + 5 * n, 3 * grid + room) & (told & same)
+    cases::sized(inputs, count, 5 + 6 * n, 3 * grid + room) & (told & same)
 }

@@ -1,14 +1,18 @@
 // Offsets and blocks that the Rust was asked about, compared. A case's inputs begin with base, pitch,
 // width, height, pel, x and y. The answers of an offset are pel1 and subpel. A block goes on with its
-// sides, how many bytes there are and the bytes; its answers are the samples from subpel on. Offsets and
-// the first sample are asked of a view.
+// sides, how many bytes there are and the bytes; its answers are the samples from subpel on. A sample
+// goes on with how many bytes there are and the bytes; its answers are 1 and the byte at subpel, or 0
+// where there is none. An absence has a block's inputs; its answer is how many of the block's samples
+// lie outside the bytes. Offsets and samples are asked of a view.
 use plane::Place;
+use plane::Read;
 ghost use mathlib.Core.Path.{_≡_};
 ghost use mathlib.Core.Bool.{true};
-ghost use Prim.Native.Nat.{_*_, _≤_};
+ghost use mathlib.Core.Logic.{_⊎_};
+ghost use Prim.Native.Nat.{_+_, _*_, _≤_};
 ghost use Rattle.cases.specs.Places.{Sized};
-ghost use Rattle.plane.specs.Places.{Placed};
-ghost use Rattle.replay_plane.specs.Sizes.{blockInputs, blockAnswers};
+ghost use Rattle.plane.specs.Places.{Placed, Coordinate, Located};
+ghost use Rattle.replay_plane.specs.Sizes.{blockInputs, blockAnswers, sampleInputs, readAnswers};
 
 // Whether the plane is one that an offset can be asked of.
 fn served(place: Place) -> bool
@@ -42,6 +46,13 @@ fn place_of(numbers: &[i64; 8200]) -> Place {
     }
 }
 
+// x and y are numbers of 32 bits.
+fn coordinate(number: i64) -> i64
+    ensures { λ r. ⌜ Coordinate r ⌝ }
+{
+    whole::wrap32(number) as i64
+}
+
 pub fn offset_agrees(numbers: &[i64; 8200], inputs: usize, count: usize) -> bool
     ensures { λ r. ⌜ (r ≡ true → Sized 7 2 inputs count) ⌝ }
 {
@@ -49,19 +60,21 @@ pub fn offset_agrees(numbers: &[i64; 8200], inputs: usize, count: usize) -> bool
     if !served(place) {
         return false;
     }
-    let x = whole::wrap32(numbers[5]);
-    let y = whole::wrap32(numbers[6]);
+    let x = coordinate(numbers[5]);
+    let y = coordinate(numbers[6]);
     let none = [0u8; 1];
     let at_pel1 = numbers[7] == plane_view::pel1_of(&none, place, x, y);
     let at_subpel = numbers[8] == plane_view::subpel_of(&none, place, x, y);
     cases::sized(inputs, count, 7, 2) & (at_pel1 & at_subpel)
 }
 
-// The plane's bytes, from number 10 on.
-fn data(numbers: &[i64; 8200]) -> [u8; 512] {
+// The plane's bytes, from a number on.
+fn data(numbers: &[i64; 8200], from: usize) -> [u8; 512]
+    requires { ⌜ from ≤ 10 ⌝ }
+{
     let mut out = [0u8; 512];
     for k in 0..512 {
-        out[k] = cases::byte(numbers[10 + k]);
+        out[k] = cases::byte(numbers[from + k]);
     }
     out
 }
@@ -89,8 +102,8 @@ fn area(w: usize, h: usize) -> usize
 }
 
 // The block from subpel on.
-fn block_at(bytes: &[u8], place: Place, x: i32, y: i32, w: usize, h: usize) -> [u8; 256]
-    requires { ⌜ Placed place ⌝ }
+fn block_at(bytes: &[u8], place: Place, x: i64, y: i64, w: usize, h: usize) -> [u8; 256]
+    requires { ⌜ Located place x y ⌝ }
     requires { ⌜ (w ≤ 16) × (h ≤ 16) ⌝ }
 {
     let pitch = place.pitch;
@@ -98,16 +111,16 @@ fn block_at(bytes: &[u8], place: Place, x: i32, y: i32, w: usize, h: usize) -> [
     plane::gather(bytes, at, pitch as usize, w, h)
 }
 
-// Whether the answers, which stand behind n bytes, are the block and its first sample.
+// Whether the answers, which stand behind n bytes, are the block and the weight of its first sample.
 fn is_block(numbers: &[i64; 8200], place: Place, n: usize, w: usize, h: usize) -> bool
     requires { ⌜ Placed place ⌝ }
     requires { ⌜ (n ≤ 512) × ((w ≤ 16) × (h ≤ 16)) ⌝ }
 {
-    let x = whole::wrap32(numbers[5]);
-    let y = whole::wrap32(numbers[6]);
-    let bytes = data(numbers);
+    let x = coordinate(numbers[5]);
+    let y = coordinate(numbers[6]);
+    let bytes = data(numbers, 10);
     let block = block_at(&bytes[..n], place, x, y, w, h);
-    let first = wide(plane_view::sample_of(&bytes[..n], place, x, y));
+    let first = wide(plane::weight(plane_view::sample_of(&bytes[..n], place, x, y)));
     (numbers[10 + n] == first) & same(&block, numbers, 10 + n, area(w, h))
 }
 
@@ -128,4 +141,60 @@ pub fn block_agrees(numbers: &[i64; 8200], inputs: usize, count: usize) -> bool
     }
     let told = numbers[9] == n as i64;
     cases::sized(inputs, count, 10 + n, samples) & (told & is_block(numbers, place, n, w, h))
+}
+
+// ---- samples, and how many are absent
+// Whether the answers, which stand behind n bytes, are what was read.
+fn is_read(numbers: &[i64; 8200], inputs: usize, count: usize, n: usize, read: Read) -> bool
+    requires { ⌜ n ≤ 512 ⌝ }
+    ensures { λ r. ⌜ (r ≡ true → Sized (8 + n) (readAnswers read) inputs count) ⌝ }
+{
+    let Read::Inside(byte) = read else {
+        return cases::sized(inputs, count, 8 + n, 1) & (numbers[8 + n] == 0);
+    };
+    let there = numbers[8 + n] == 1;
+    cases::sized(inputs, count, 8 + n, 2) & (there & (numbers[9 + n] == wide(byte)))
+}
+
+// A line has one answer, or two.
+pub fn sample_agrees(numbers: &[i64; 8200], inputs: usize, count: usize) -> bool
+    ensures { λ r. ⌜ (r ≡ true → Sized (sampleInputs (now (numbers .entry))) 1 inputs count ⊎ Sized (sampleInputs (now (numbers .entry))) 2 inputs count) ⌝ }
+{
+    let place = place_of(numbers);
+    if !served(place) {
+        return false;
+    }
+    let n = cases::limited(numbers[7], 512);
+    let told = numbers[7] == n as i64;
+    let x = coordinate(numbers[5]);
+    let y = coordinate(numbers[6]);
+    let bytes = data(numbers, 8);
+    let read = plane_view::sample_of(&bytes[..n], place, x, y);
+    is_read(numbers, inputs, count, n, read) & told
+}
+
+// Whether the answer, which stands behind n bytes, is how many of the samples are absent.
+fn is_absent(numbers: &[i64; 8200], place: Place, n: usize, w: usize, h: usize) -> bool
+    requires { ⌜ Placed place ⌝ }
+    requires { ⌜ (n ≤ 512) × ((w ≤ 16) × (h ≤ 16)) ⌝ }
+{
+    let x = coordinate(numbers[5]);
+    let y = coordinate(numbers[6]);
+    let bytes = data(numbers, 10);
+    let at = plane_view::subpel_of(&bytes[..n], place, x, y);
+    numbers[10 + n] == absent_reads::absent(&bytes[..n], place, at, w, h) as i64
+}
+
+pub fn absent_agrees(numbers: &[i64; 8200], inputs: usize, count: usize) -> bool
+    ensures { λ r. ⌜ (r ≡ true → Sized (blockInputs (now (numbers .entry))) 1 inputs count) ⌝ }
+{
+    let place = place_of(numbers);
+    if !served(place) {
+        return false;
+    }
+    let w = cases::limited(numbers[7], 16);
+    let h = cases::limited(numbers[8], 16);
+    let n = cases::limited(numbers[9], 512);
+    let told = numbers[9] == n as i64;
+    cases::sized(inputs, count, 10 + n, 1) & (told & is_absent(numbers, place, n, w, h))
 }

@@ -36,6 +36,7 @@ use Rattle.evaluation.proofs.evaluate as evaluate
 use Rattle.zero_law.proofs.evaluate_knowing as evaluate-knowing
 use Rattle.little_endian.proofs.words_into as words-into
 use Rattle.little_endian.proofs.put_word as put-word
+use Rattle.put_numbers.proofs.put_five as put-five
 use Rattle.passes.proofs.write_all as write-all
 use Rattle.finishing.proofs.finish as finish
 use Rattle.report_text.specs.Putting.{Puts}
@@ -242,7 +243,7 @@ module _ {M : Type 1} (𝓤 : URA M) where
         (λ κs r e. r & (now (e .1 .1 .1 .1 .1 .1 .0) & now (e .1 .1 .1 .1 .1 .1 .1 .0)))
     hirupango-finish-same κs a g r s e f = three
 
-    -- ---- zero_law: the equations of evaluating, with the law beside them
+    -- ---- zero_law: the equations of evaluating, with the laws beside them
     pub evaluate-knowing-same : Same evaluate-knowing.ended (evaluate-knowing.clauses 𝓤 H A mem run) (λ κs r e. r & now (e .1 .1 .1 .1 .1 .1 .1 .1 .0))
     evaluate-knowing-same κs a g r s e f = two-beside
 
@@ -252,6 +253,9 @@ module _ {M : Type 1} (𝓤 : URA M) where
 
     pub put-word-same : Same put-word.ended (put-word.clauses 𝓤 H A mem run) (λ κs r e. now (e .0))
     put-word-same κs a g r s e f = one
+
+    pub put-five-same : Same put-five.ended (put-five.clauses 𝓤 H A mem run) (λ κs r e. now (e .0))
+    put-five-same κs a g r s e f = one
 
     pub write-all-same : Same write-all.ended (write-all.clauses 𝓤 H A mem run) (λ κs r e. now (e .1 .1 .1 .1 .1 .1 .1 .0) & now (e .1 .1 .1 .1 .1 .1 .1 .1 .0))
     write-all-same κs a g r s e f = two

@@ -22,7 +22,7 @@ pub struct Reference {
     pub shift: i32,
 }
 
-fn vector_offset(samples: &[u8], reference: Reference, vx: i32, vy: i32) -> i64
+pub fn vector_offset(samples: &[u8], reference: Reference, vx: i32, vy: i32) -> i64
     requires { ⌜ Reached reference ⌝ }
     requires { ⌜ Within 32768 65536 vx × Within 32768 65536 vy ⌝ }
     ensures { λ r. ⌜ r ≡ vectorOffset reference vx vy ⌝ }
@@ -32,8 +32,8 @@ fn vector_offset(samples: &[u8], reference: Reference, vx: i32, vy: i32) -> i64
     let px = reference.x;
     let py = reference.y;
     let shift = reference.shift;
-    let x = px + limits::shifted(vx, shift);
-    let y = py + limits::shifted(vy, shift);
+    let x = px as i64 + limits::shifted(vx, shift) as i64;
+    let y = py as i64 + limits::shifted(vy, shift) as i64;
     plane_view::subpel_of(samples, place, x, y)
 }
 

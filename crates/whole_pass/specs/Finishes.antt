@@ -31,6 +31,7 @@ use Rattle.choosing.specs.Answers.{selected-ranged}
 use Rattle.record_slice.specs.RecordSlice.{recordAt}
 use Rattle.block.specs.declared.Settings.{Settings}
 use Rattle.best.specs.declared.Task.{Task}
+use Rattle.best.specs.declared.Best.{Best}
 use Rattle.best.specs.Best.{choiceOf, bestOf}
 use Rattle.passes.specs.Fold.{indexAt, turnAt, turnOf, allFit, wordsUpto, indicesUpto}
 use Rattle.passes.specs.FoldLaws.{indices-long}
@@ -38,14 +39,15 @@ use Rattle.planning.specs.Refusals.{blockCount}
 use Rattle.planning.specs.Planned.{madeOf}
 use Rattle.planning.specs.Accepted.{Set, Accepted}
 use Rattle.evaluation.specs.declared.Request.{Request}
-use Rattle.evaluation.specs.Evaluated.{taskOf, bestAt, bestsUpto}
+use Rattle.evaluation.specs.Evaluated.{taskOf, bestAt, fifthAt, bestsUpto}
 use Rattle.evaluation.specs.BestsLaws.{bests-long}
 use Rattle.evaluation.specs.Accepted.{ranged}
 use Rattle.finishing.specs.Finish.{refused1, refused2, isStray, refused4, refused5, isWild, refused7, finishAnswer, finishVectors, finishOutput, writtenUpto}
 use Rattle.finishing.specs.Finish as finish
+use Rattle.finishing.specs.Written.{written-alike}
 use Rattle.plan_laws.specs.ReadBack.{planned, record-read}
 use Rattle.whole_pass.specs.Pass.{passBest, storing, putting, passVectors, passOutput}
-use Rattle.whole_pass.specs.Lists.{index-reads, written-alike}
+use Rattle.whole_pass.specs.Lists.{index-reads}
 
 -- ---- a best's vector fits i16
 best-tame : (task : Task) (r : Record) (luma u v referenceLuma referenceU referenceV : List ℕ) → pairsFit r ≡ true →
@@ -115,10 +117,13 @@ module _ (s : Settings) (q : Request) (order vectors : List ℤ) (luma u v refer
       ≡ passBest s q order vectors luma u v referenceLuma referenceU referenceV i
   best-is i l = ap (λ (r : Record). bestOf (taskOf q) r luma u v referenceLuma referenceU referenceV) (record-is i l)
 
-  reads : (i : ℕ) → i < n → Reads bests i (passBest s q order vectors luma u v referenceLuma referenceU referenceV i)
+  abbrev fifth : ℕ → ℤ
+  fifth = fifthAt (taskOf q) records luma u v referenceLuma referenceU referenceV
+
+  reads : (i : ℕ) → i < n → Reads bests i (passBest s q order vectors luma u v referenceLuma referenceU referenceV i) (fifth i)
   reads i l =
-      subst (Reads bests i) (best-is i l)
-      (subst (λ (x : List ℤ). Reads x i (bestAt (taskOf q) records luma u v referenceLuma referenceU referenceV i)) (append-nil bests)
+      subst (λ (b : Best). Reads bests i b (fifth i)) (best-is i l)
+      (subst (λ (x : List ℤ). Reads x i (bestAt (taskOf q) records luma u v referenceLuma referenceU referenceV i) (fifth i)) (append-nil bests)
       (best-reads (taskOf q) records luma u v referenceLuma referenceU referenceV n i [] l))
 
   index-is : (i : ℕ) → i < n → getD indices i (pos 0) ≡ pos (indexAt (s .grid) order i)
@@ -159,10 +164,10 @@ module _ (s : Settings) (q : Request) (order vectors : List ℤ) (luma u v refer
 
   not-5 : (asked : Bool) (room : ℕ) → (asked ≡ true → 2 * n ≤ room) → refused5 (s .grid .x) (s .grid .y) indices bests asked room ≡ false
   not-5 asked room h =
-      let bests-4 : eqb (length bests) (numbersPerBest * length indices) ≡ true = eq-eqb (length bests) (numbersPerBest * length indices)
+      let bests-5 : eqb (length bests) (numbersPerBest * length indices) ≡ true = eq-eqb (length bests) (numbersPerBest * length indices)
       (bests-long (taskOf q) records luma u v referenceLuma referenceU referenceV n
       ∙ ap (λ (m : ℕ). numbersPerBest * m) (sym (indices-long s order vectors n))) in
-      rw bests-4 (by asked refl)
+      rw bests-5 (by asked refl)
     where
       by : (a : Bool) → asked ≡ a → (a && ltb room (2 * blocksOf (s .grid .x) (s .grid .y)) || false) ≡ false
       by true e = let enough = h e in rw (le-ltb room (2 * blocksOf (s .grid .x) (s .grid .y)) (omega arith))

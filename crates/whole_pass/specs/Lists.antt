@@ -1,5 +1,5 @@
--- What is read of the indices that were written one behind the other, and two ways of writing that are one. Assumes nothing.
-use mathlib.Core.Path.{_≡_, refl, ap, subst, _∙_}
+-- What is read of the indices that were written one behind the other. Assumes nothing.
+use mathlib.Core.Path.{_≡_, ap, subst, _∙_}
 use mathlib.Core.List.{List, [], _∷_, _++_, append-assoc}
 use mathlib.Core.Logic.{⊎-elim}
 use Prim.Native.Nat.{ℕ, zero, suc, _+_, _<_}
@@ -11,7 +11,6 @@ use Rattle.block.specs.declared.Settings.{Settings}
 use Rattle.passes.specs.Fold.{indexAt, turnAt, turnOf, indicesUpto}
 use Rattle.passes.specs.FoldLaws.{indices-long}
 use Rattle.evaluation.specs.BestsRead.{behind}
-use Rattle.finishing.specs.Finish.{writtenUpto}
 
 -- ---- indices
 module _ (s : Settings) (order vectors : List ℤ) where
@@ -38,11 +37,3 @@ module _ (s : Settings) (order vectors : List ℤ) where
       subst (λ (j : ℕ). getD (listed n ++ one ++ tail) j (pos 0) ≡ pos (indexAt (s .grid) order j)) same
       (ap (λ (k : List ℤ). getD k n (pos 0)) joined ∙ last-index n tail))
       (lt-or-ge i n)
-
--- ---- two ways of writing that do the same at each entry
-pub written-alike : (f g : ℕ → List ℤ → List ℤ) (buffer : List ℤ) (n : ℕ) → ((i : ℕ) (held : List ℤ) → i < n → f i held ≡ g i held) →
-    writtenUpto f buffer n ≡ writtenUpto g buffer n
-unfolding writtenUpto
-written-alike f g buffer zero h = refl
-written-alike f g buffer (suc n) h =
-    h n (writtenUpto f buffer n) (omega arith) ∙ ap (g n) (written-alike f g buffer n (λ i held l. h i held (omega arith)))

@@ -1,10 +1,11 @@
-// Evaluating, with the third demand's last sentence in the contract. A lent slice holds bytes whatever
-// it holds, so that the caller is asked for nothing: the law is about the buffer that he gets back.
+// Evaluating, with the third demand's last sentence in the contract, and what the fifth number says. A
+// lent slice holds bytes whatever it holds, so that the caller is asked for nothing: the laws are about
+// the buffer that he gets back.
 use evaluation::Request;
 ghost use mathlib.Core.Path.{_≡_};
 ghost use lib.ListN.{length};
 ghost use Rattle.evaluation.specs.Evaluated.{evaluateAnswer, evaluateBests};
-ghost use Rattle.evaluation.specs.Zero.{ZeroLaw};
+ghost use Rattle.zero_law.specs.Knowing.{Known};
 
 pub fn evaluate_knowing(
     request: Request,
@@ -19,7 +20,7 @@ pub fn evaluate_knowing(
 ) -> u32
     ensures { λ r. ⌜ r ≡ evaluateAnswer request (now (records .entry)) (now (luma .entry)) (now (u .entry)) (now (v .entry)) (now («reference_luma» .entry)) (now («reference_u» .entry)) (now («reference_v» .entry)) (length (now (bests .entry))) ⌝ }
     ensures { λ _. ⌜ now (bests .exit) ≡ evaluateBests request (now (records .entry)) (now (luma .entry)) (now (u .entry)) (now (v .entry)) (now («reference_luma» .entry)) (now («reference_u» .entry)) (now («reference_v» .entry)) (now (bests .entry)) ⌝ }
-    ensures { λ r. ⌜ (r ≡ 0 → ZeroLaw request (now (records .entry)) (now (luma .entry)) (now (u .entry)) (now (v .entry)) (now («reference_luma» .entry)) (now («reference_u» .entry)) (now («reference_v» .entry)) (now (bests .exit))) ⌝ }
+    ensures { λ r. ⌜ (r ≡ 0 → Known request (now (records .entry)) (now (luma .entry)) (now (u .entry)) (now (v .entry)) (now («reference_luma» .entry)) (now («reference_u» .entry)) (now («reference_v» .entry)) (now (bests .exit))) ⌝ }
 {
     evaluation::evaluate(
         request,

@@ -1,6 +1,7 @@
 /* differences < LINE: asks an export what `oracle outside NAME` was asked, and prints what the port does: its number, or what it answers or stores.
  * The line is the kind, and then all inputs, so that both are asked the same. */
 #include "../../../include/hirupango.h"
+#include "../best.h"
 #include "../marks.h"
 #include "../unread.h"
 
@@ -192,12 +193,12 @@ static void ask_evaluate(void) {
     q.reference.v = p[5].place;
     size_t words = (size_t)take(), n = words / 12;
     int32_t *records = take_words(words);
-    struct lent bests = lend(4 * n);
+    struct lent bests = lend(NUMBERS * n);
     uint32_t number = hirupango_evaluate(q, records, words, p[0].bytes, p[0].length, p[1].bytes, p[1].length, p[2].bytes, p[2].length, p[3].bytes,
                                          p[3].length, p[4].bytes, p[4].length, p[5].bytes, p[5].length, bests.at, bests.length);
     if (number != 0) return refused(number, bests, lend(0));
     printf("evaluates");
-    for (size_t i = 0; i < 4 * n; i++) printf("%s %d", i > 0 && i % 4 == 0 ? ";" : "", bests.at[i]);
+    for (size_t i = 0; i < NUMBERS * n; i++) printf("%s %d", i > 0 && i % NUMBERS == 0 ? ";" : "", bests.at[i]);
     printf("\n");
 }
 
@@ -209,9 +210,9 @@ static void ask_finish(void) {
     size_t entries = (size_t)take();
     int32_t *indices = take_words(entries);
     size_t count = (size_t)take();
-    int32_t *bests = take_words(4 * count);
-    uint32_t number = hirupango_finish(grid.x, grid.y, indices, entries, bests, 4 * count, diagonal, asked, vectors.at, vectors.length, output.at,
-                                       output.length);
+    int32_t *bests = take_words(NUMBERS * count);
+    uint32_t number = hirupango_finish(grid.x, grid.y, indices, entries, bests, NUMBERS * count, diagonal, asked, vectors.at, vectors.length,
+                                       output.at, output.length);
     if (number != 0) return refused(number, vectors, output);
     printf("stores");
     for (size_t i = 0; i < vectors.length; i += 3)

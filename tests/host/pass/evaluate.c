@@ -1,6 +1,7 @@
+#include "../best.h"
 #include "lines.h"
 
-enum { WORDS = 12, NUMBERS = 4, PLANES = 3 };
+enum { WORDS = 12, PLANES = 3 };
 
 struct bytes take_plane(struct numbers *from, int32_t pel, struct hirupango_place *place) {
     size_t length = 0;

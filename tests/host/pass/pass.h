@@ -1,9 +1,10 @@
 /* The steps of a pass on planes that are there: the line's own, or those of a level. */
 #ifndef PASS_H
 #define PASS_H
+#include "../best.h"
 #include "lines.h"
 
-enum { WORDS = 12, NUMBERS = 4, PLANES = 3 };
+enum { WORDS = 12, PLANES = 3 };
 
 /* The planes are the source's luma, U and V, and then the reference's. */
 struct pass {

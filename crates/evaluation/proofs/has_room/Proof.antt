@@ -1,4 +1,4 @@
--- Whole records, and four numbers for each. Assumes nothing.
+-- Whole records, and five numbers for each. Assumes nothing.
 use mathlib.Core.Path.{refl}
 use native.Mathlib.Omega.{arith}
 use Rattle.evaluation.proofs.has_room.Statement.{statement}

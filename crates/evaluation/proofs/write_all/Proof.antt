@@ -1,4 +1,4 @@
--- After i turns the bests of i records stand in front of the old tail. Assumes nothing.
+-- After i turns the five numbers of i records stand in front of the old tail. Assumes nothing.
 use mathlib.Core.Path.{_≡_, refl, sym, ap, subst, _∙_}
 use mathlib.Core.Bool.{true}
 use mathlib.Core.List.{_++_}
@@ -8,7 +8,7 @@ use lib.ListN.{length, drop}
 use Rattle.limits.specs.Sizes.{wordsPerRecord, numbersPerBest}
 use Rattle.records.specs.declared.Record.{Record}
 use Rattle.records.specs.Packing.{pairsFit}
-use Rattle.best.specs.Best.{bestOf}
+use Rattle.five_numbers.specs.Five.{fiveOf}
 use Rattle.best.specs.Fair.{Fair}
 use Rattle.evaluation.specs.Evaluated.{bestsUpto}
 use Rattle.evaluation.specs.BestsLaws.{Written, written-long, written-next}
@@ -28,8 +28,8 @@ loop-holds c = (omega arith, refl)
 record-at-requires : tie.Need-record-at-requires Inv-loop μ-loop
 record-at-requires c κs = let l = c .loop-test .taken in omega arith
 
-best-of-requires : tie.Need-best-of-requires Inv-loop μ-loop
-best-of-requires c κs =
+five-of-requires : tie.Need-five-of-requires Inv-loop μ-loop
+five-of-requires c κs =
     let a = c .before .before .before .before .before .before .before .before .before .args in
     let e = c .record-at .ensures .0 in
     subst (Fair (a .task)) (sym e)
@@ -59,7 +59,7 @@ loop-again : tie.Need-loop-again Inv-loop μ-loop
 loop-again c =
     let a = c .before .before .before .before .before .before .before .before .before .before .before .before .before .args in
     let q = c .before .before .before .before .before .before .loop in
-    let found = c .before .before .before .best-of .ensures ∙ ap (λ (r : Record). bestOf (a .task) r (a .luma .now) (a .u .now) (a .v .now) (a .reference-luma .now) (a .reference-u .now) (a .reference-v .now)) (c .before .before .before .before .record-at .ensures .0) in (
+    let found = c .before .before .before .five-of .ensures ∙ ap (λ (r : Record). fiveOf (a .task) r (a .luma .now) (a .u .now) (a .v .now) (a .reference-luma .now) (a .reference-u .now) (a .reference-v .now)) (c .before .before .before .before .record-at .ensures .0) in (
       omega (arith, c .before .before .before .before .before .loop-test .taken),
       rw (c .before .put .ensures) (written-next (a .task) (a .records .now) (a .luma .now) (a .u .now) (a .v .now) (a .reference-luma .now) (a .reference-u .now) (a .reference-v .now) (q .i) (a .bests .now) (q .inv .1) found),
     )
@@ -82,7 +82,7 @@ write-all-spec =
     μ-loop
     loop-holds
     record-at-requires
-    best-of-requires
+    five-of-requires
     mul-put
     put-requires
     add-i

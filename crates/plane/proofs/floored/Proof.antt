@@ -8,8 +8,9 @@ use mir.Syntax.{w32}
 use mir.Val.{SFits, toZ, ofZ}
 use Prim.Native.Nat.{ℕ}
 use Rattle.limits.specs.Ranges.{pel-cases}
-use Rattle.whole.specs.Interval.{word, is-shr}
+use Rattle.whole.specs.Interval.{is-shr}
 use Rattle.plane.specs.Offsets.{shr-1}
+use Rattle.plane.proofs.Machine.{long}
 use Rattle.plane.proofs.floored.Statement.{statement}
 use Rattle.plane.proofs.floored.Tie as tie
 
@@ -27,13 +28,13 @@ returns-2 : tie.Need-returns-2
 returns-2 c =
     let s = c .before .before in
     let two = number (s .fits .pel) (c .if2 .taken) in
-    is-shr 2 (word (s .fits .x)) tt tt .same ∙ sym (ap (λ (z : ℤ). shrZ (s .args .x) (natAbs z)) two)
+    is-shr 2 (long (s .fits .x)) tt tt .same ∙ sym (ap (λ (z : ℤ). shrZ (s .args .x) (natAbs z)) two)
 
 returns-3 : tie.Need-returns-3
 returns-3 c =
     let s = c .before .before in
     let four = ⊎-elim (λ e. absurd (c .before .if1 .left (ap (ofZ w32) e))) (⊎-elim (λ e. absurd (c .if2 .left (ap (ofZ w32) e))) (λ e. e)) (pel-cases (s .args .pel) (s .pre)) in
-    is-shr 4 (word (s .fits .x)) tt tt .same ∙ sym (ap (λ (z : ℤ). shrZ (s .args .x) (natAbs z)) four)
+    is-shr 4 (long (s .fits .x)) tt tt .same ∙ sym (ap (λ (z : ℤ). shrZ (s .args .x) (natAbs z)) four)
 
 pub floored-spec : {M : Type 1} → statement M
 floored-spec = tie.close (tie.spec returns returns-2 returns-3)

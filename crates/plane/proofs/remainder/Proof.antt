@@ -2,22 +2,26 @@
 use mathlib.Core.Path.{ap, _∙_}
 use lib.Bits.{bitAnd}
 use lib.IntN.{ℤ, pos, _-ℤ_}
-use mir.Facts.{toZ-ofZ}
-use mir.Syntax.{w32}
+use mir.Syntax.{w32, w64}
 use mir.Val.{toZ, ofZ}
 use Rattle.limits.specs.Ranges.{pel-within}
-use Rattle.whole.specs.Interval.{is-arg, is-literal, ask-sub}
-use Rattle.plane.proofs.Machine.{masked-by-pel}
+use Rattle.whole.specs.Interval.{Is, word, within-more, is-arg, is-cast, is-literal, ask-cast, ask-sub}
+use Rattle.plane.proofs.Machine.{as-64, masked-by-pel}
 use Rattle.plane.proofs.remainder.Statement.{statement}
 use Rattle.plane.proofs.remainder.Tie as tie
 
-sub-result : tie.Need-sub-result
-sub-result c = ask-sub (is-arg (c .fits .pel) (pel-within (c .args .pel) (c .pre))) (is-literal w32 (pos 1)) tt tt
+pel-at : (c : tie.Start) → Is w64 0 4 (as-64 (toZ w32 (ofZ w32 (c .args .pel)))) (c .args .pel)
+pel-at c = is-cast w64 (is-arg (c .fits .pel) (within-more (pel-within (c .args .pel) (c .pre)) tt tt)) tt tt
 
 returns : tie.Need-returns
 returns c =
-    ap (λ (z : ℤ). toZ w32 (bitAnd (ofZ w32 (c .args .x)) (ofZ w32 (z -ℤ pos 1)))) (toZ-ofZ (c .fits .pel))
+    ap (λ (z : ℤ). toZ w64 (bitAnd (ofZ w64 (c .args .x)) (ofZ w64 (z -ℤ pos 1)))) (pel-at c .same)
     ∙ masked-by-pel (c .fits .x) (c .args .pel) (c .pre)
 
 pub remainder-spec : {M : Type 1} → statement M
-remainder-spec = tie.close (tie.spec sub-result returns)
+remainder-spec =
+    tie.close
+    (tie.spec
+    (λ c. ask-cast w64 (word (c .fits .pel)) tt tt)
+    (λ c. ask-sub (pel-at c) (is-literal w64 (pos 1)) tt tt)
+    returns)

@@ -1,12 +1,13 @@
 -- A near offset and a few bytes more fit 64 bits. Assumes nothing.
 use borrow.Author.Needs.{needs}
-use mathlib.Core.Path.{_≡_}
+use mathlib.Core.Path.{_≡_, ap, _∙_}
 use native.Mathlib.Omega.{arith}
 use lib.IntN.{pos, _+ℤ_}
 use mir.Facts.{toZ-ofZ, toZ-pos}
 use mir.Syntax.{w64}
 use mir.Val.{SFits, toZ}
 use Rattle.whole.specs.Signed.{signed}
+use Rattle.plane.specs.Samples.{weight, sampleAt}
 use Rattle.plane.proofs.sample_on.Statement.{statement}
 use Rattle.plane.proofs.sample_on.Tie as tie
 
@@ -24,12 +25,13 @@ add-sample c =
     simp (toZ-ofZ, e) (sum-fits s)
 
 returns : tie.Need-returns
+unfolding sampleAt
 returns c =
-    let s = c .before .before in
+    let s = c .before .before .before in
     let f = s .fits .at in
     let g = sum-fits s in
     let e = n-is s in
-    simp (toZ-ofZ, e) at (c .sample .ensures)
+    c .weight .ensures ∙ ap weight (simp (toZ-ofZ, e) at (c .before .sample .ensures))
 
 pub sample-on-spec : {M : Type 1} → statement M
-sample-on-spec = tie.close (tie.spec (λ c. search needs) add-sample (λ c κs. search needs) returns)
+sample-on-spec = tie.close (tie.spec (λ c. search needs) add-sample (λ c κs. search needs) (λ c κs. search needs) returns)

@@ -1,4 +1,4 @@
--- The counter stays below 200, and the place below 8200. Assumes nothing.
+-- The counter stays below 250, and the place below 8200. Assumes nothing.
 use borrow.Author.Needs.{needs}
 use mathlib.Core.Path.{_≡_}
 use Prim.Native.Nat.{_-_, _≤_}
@@ -7,10 +7,10 @@ use Rattle.replay_grid.proofs.words_from.Statement.{statement}
 use Rattle.replay_grid.proofs.words_from.Tie as tie
 
 abbrev Inv-loop : tie.InvT-loop
-Inv-loop numbers from out₀ k₀ out k = (k ≤ 200) × (length out ≡ 200)
+Inv-loop numbers from out₀ k₀ out k = (k ≤ 250) × (length out ≡ 250)
 
 abbrev μ-loop : tie.MeasureT-loop
-μ-loop numbers from out₀ k₀ out k = 200 - k
+μ-loop numbers from out₀ k₀ out k = 250 - k
 
 pub words-from-spec : {M : Type 1} → statement M
 words-from-spec =

@@ -7,10 +7,10 @@ use Rattle.replay_plane.proofs.data.Statement.{statement}
 use Rattle.replay_plane.proofs.data.Tie as tie
 
 abbrev Inv-loop : tie.InvT-loop
-Inv-loop numbers out₀ k₀ out k = (k ≤ 512) × (length out ≡ 512)
+Inv-loop numbers from out₀ k₀ out k = (k ≤ 512) × (length out ≡ 512)
 
 abbrev μ-loop : tie.MeasureT-loop
-μ-loop numbers out₀ k₀ out k = 512 - k
+μ-loop numbers from out₀ k₀ out k = 512 - k
 
 pub data-spec : {M : Type 1} → statement M
 data-spec =

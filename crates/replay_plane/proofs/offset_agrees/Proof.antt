@@ -6,8 +6,9 @@ use lib.Dec.{eqb}
 use lib.IntN.{pos}
 use lib.ListN.{getD}
 use mir.Syntax.{w64}
-use mir.Val.{ofZ}
-use Rattle.plane.specs.Places.{Placed}
+use mir.Val.{toZ, ofZ}
+use Rattle.plane.specs.Places.{Placed, Located}
+use Rattle.whole.specs.Interval.{is-within, read-within}
 use Rattle.whole.specs.Signed.{holds}
 use Rattle.whole.specs.Truth.{left-of}
 use Rattle.replay_plane.proofs.offset_agrees.Statement.{statement}
@@ -16,11 +17,21 @@ use Rattle.replay_plane.proofs.offset_agrees.Tie as tie
 placed : (c : tie.Else1) → Placed (c .before .before .place-of .result)
 placed c = c .before .served .ensures (not-false (c .before .served .result) (c .if1 .left))
 
+-- the place and the two numbers, as they are handed on
+located : (c : tie.After-coordinate2) → let k = c .before .before .before .before in
+    Located (k .before .before .place-of .result) (toZ w64 (ofZ w64 (c .before .before .coordinate .result))) (toZ w64 (ofZ w64 (c .coordinate2 .result)))
+located c =
+    record {
+      placed = placed (c .before .before .before .before);
+      x-in = read-within (is-within w64 (c .before .before .coordinate .ensures) tt tt);
+      y-in = read-within (is-within w64 (c .coordinate2 .ensures) tt tt);
+    }
+
 pel1-of-requires : tie.Need-pel1-of-requires
-pel1-of-requires c κs = placed (c .before .before .before .before .before .before)
+pel1-of-requires c κs = located (c .before .before)
 
 subpel-of-requires : tie.Need-subpel-of-requires
-subpel-of-requires c κs = placed (c .before .before .before .before .before .before .before .before .before)
+subpel-of-requires c κs = located (c .before .before .before .before .before)
 
 returns-2 : tie.Need-returns-2
 returns-2 c e =

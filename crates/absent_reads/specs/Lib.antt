@@ -1,0 +1,3 @@
+pub mod Absent
+pub mod Rows
+pub mod Counts

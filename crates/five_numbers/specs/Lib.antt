@@ -1,0 +1,4 @@
+pub mod Five
+pub mod Asked
+pub mod Laws
+pub mod Counted
