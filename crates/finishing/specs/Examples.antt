@@ -92,7 +92,7 @@ unfolding finishAnswer anyUpto
 bests-of-4 = refl
 
 -- the second best alone does not fit
-pub second-best-wild : finishAnswer (pos 2) (pos 2) (pos 0 ∷ pos 0 ∷ []) (pos 1 ∷ pos 2 ∷ pos 3 ∷ pos 4 ∷ pos 5 ∷ pos 32768 ∷ pos 2 ∷ pos 3 ∷ pos 4 ∷ pos 5 ∷ [])
-    (pos 1) false 12 0 ≡ 7
+pub second-best-wild : finishAnswer (pos 2) (pos 2) (pos 0 ∷ pos 0 ∷ [])
+    (pos 1 ∷ pos 2 ∷ pos 3 ∷ pos 4 ∷ pos 5 ∷ pos 32768 ∷ pos 2 ∷ pos 3 ∷ pos 4 ∷ pos 5 ∷ []) (pos 1) false 12 0 ≡ 7
 unfolding finishAnswer anyUpto
 second-best-wild = refl

@@ -1,5 +1,5 @@
--- 02, Two: "finishing ignores the fifth". Bests that are alike but for their fifth numbers, whatever those are, are answered alike, and leave the same vectors and the
--- same output. Assumes nothing.
+-- 02, Two: "finishing ignores the fifth". Bests that are alike but for their fifth numbers, whatever those are, are answered alike, and leave the same
+-- vectors and the same output. Assumes nothing.
 use mathlib.Core.Path.{_≡_, refl, sym, ap, _∙_}
 use mathlib.Core.Bool.{Bool, _||_, not, cond}
 use mathlib.Core.List.{List}
@@ -57,7 +57,8 @@ module _ (nx ny : ℤ) (indices bests others : List ℤ) (diagonal : ℤ) (asked
   unfolding finishVectors
   vectors-alike vectors room =
       let e = answer-alike (length vectors) room in
-      let f = written-alike (storing indices bests) (storing indices others) vectors (length indices) (λ n held l. let k = alike n l in rw (k .x, k .y, k .sad)) in
+      let f = written-alike (storing indices bests) (storing indices others) vectors (length indices)
+          (λ n held l. let k = alike n l in rw (k .x, k .y, k .sad)) in
       rw (e, f)
 
   pub output-alike : (held : ℕ) (output : List ℤ) →

@@ -1,5 +1,5 @@
--- What the fifth number says, of one record: the first four are as they were; a bad block's fifth is how many samples are absent at the vector answered; it is 0
--- exactly where every one of them was there, and all of them exactly where none was. Assumes nothing.
+-- What the fifth number says, of one record: the first four are as they were; a bad block's fifth is how many samples are absent at the vector answered; it
+-- is 0 exactly where every one of them was there, and all of them exactly where none was. Assumes nothing.
 use mathlib.Core.Path.{_≡_, refl, sym, _∙_}
 use mathlib.Core.Bool.{Bool, true, false, cond}
 use mathlib.Core.List.{List}
@@ -119,7 +119,8 @@ module _ (Q : OfSamples) (t : ℕ → ℕ → ℕ) (each : (s : List ℕ) (at : 
   )
 
   count-is : (l + cond (isNegative given) 0 (a + b) ≡ inAll (isNegative given) L C → Apart (isNegative given) l a b L C) →
-      (absentAt task given referenceLuma referenceU referenceV x y ≡ inAll (isNegative given) L C) ↔ EachPlane task given referenceLuma referenceU referenceV x y Q
+      (absentAt task given referenceLuma referenceU referenceV x y ≡ inAll (isNegative given) L C)
+      ↔ EachPlane task given referenceLuma referenceU referenceV x y Q
   unfolding absentAt chromaAbsent
   count-is apart = ((λ e. planes-are .0 (apart e)), (λ k. together (isNegative given) (planes-are .1 k)))
 
@@ -136,7 +137,8 @@ module _ (task : Task) (given : Record) (referenceLuma referenceU referenceV : L
       ((λ e. law .0 (e ∙ sym (no-samples (isNegative given)))), (λ k. law .1 k ∙ no-samples (isNegative given)))
 
   -- ---- and all that none was
-  pub count-all : (absentAt task given referenceLuma referenceU referenceV x y ≡ comparedOf task given) ↔ NoneRealAt task given referenceLuma referenceU referenceV x y
+  pub count-all : (absentAt task given referenceLuma referenceU referenceV x y ≡ comparedOf task given)
+      ↔ NoneRealAt task given referenceLuma referenceU referenceV x y
   unfolding lumaAbsent planeAbsent
   count-all =
       count-is NoneReal (λ w h. w * h) all-absent task given referenceLuma referenceU referenceV x y

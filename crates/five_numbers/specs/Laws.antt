@@ -34,14 +34,16 @@ module _ {task : Task} {given : Record} (fair : Fair task given) where
   unfolding lumaAbsent
   luma-few referenceLuma x y =
       let size = searched-sized fair in
-      let most = absent-most referenceLuma (vectorOffset (lumaReference task given) x y) (natAbs (task .reference .luma .pitch)) (widthOf task given) (heightOf task given) in
+      let at = vectorOffset (lumaReference task given) x y in
+      let most = absent-most referenceLuma at (natAbs (task .reference .luma .pitch)) (widthOf task given) (heightOf task given) in
       omega (arith, most, mul-le-mul (size .wide) (size .high))
 
   pub plane-few : (own : Place) (reference : List ℕ) (x y : ℤ) → planeAbsent task given own reference x y ≤ 256
   unfolding planeAbsent
   plane-few own reference x y =
       let size = chroma-sized fair in
-      let most = absent-most reference (vectorOffset (chromaReference task given) x y) (natAbs (own .pitch)) (chromaWidth task given) (chromaHeight task given) in
+      let at = vectorOffset (chromaReference task given) x y in
+      let most = absent-most reference at (natAbs (own .pitch)) (chromaWidth task given) (chromaHeight task given) in
       omega (arith, most, mul-le-mul (size .wide) (size .high))
 
   pub chroma-few : (referenceU referenceV : List ℕ) (x y : ℤ) → chromaAbsent task given referenceU referenceV x y ≤ 512

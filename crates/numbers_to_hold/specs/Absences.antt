@@ -1,5 +1,5 @@
--- 02, "Two", as numbers: at pel 2 a plane of 16x16 whose data end behind the first subplane, and a block of 8x8 at (0,0). Each row counts what is absent at a vector.
--- Definitions alone; the theorem is Table's.
+-- 02, "Two", as numbers: at pel 2 a plane of 16x16 whose data end behind the first subplane, and a block of 8x8 at (0,0). Each row counts what is absent at a
+-- vector. Definitions alone; the theorem is Table's.
 use mathlib.Core.Bool.{false}
 use mathlib.Core.List.{List, [], _∷_}
 use Prim.Native.Nat.{ℕ}

@@ -149,8 +149,8 @@ refusals =
     ∷ gives (planning.refusalOf (searching (pos 0)) (order (pos 2)) (vectors (pos 0)) 256 64 64 48 4) 4
     ∷ gives (finish (pos 2) (pos 4) (pos 0) (pos 1) 8) 4
     ∷ gives (blockRefusal (pos 2) (pos 2) (pos 4)) 4
-    -- "5: a lent output is too short, or records aren't 12 words or bests" five (02, Two) "numbers for each index (evaluation has no indices: not a multiple of 12
-    -- words)": four numbers of one best are 5, of evaluating as of finishing
+    -- "5: a lent output is too short, or records aren't 12 words or bests" five (02, Two) "numbers for each index (evaluation has no indices: not a multiple
+    -- of 12 words)": four numbers of one best are 5, of evaluating as of finishing
     ∷ gives (planning.refusalOf (searching (pos 0)) (order (pos 0)) (vectors (pos 0)) 256 64 64 47 4) 5
     ∷ gives (planning.refusalOf (searching (pos 0)) (order (pos 0)) (vectors (pos 0)) 256 64 64 48 3) 5
     ∷ gives (evaluate (pos 8) (pos 0) (pos 0 ∷ []) 256) 5

@@ -148,8 +148,8 @@ numbersToHold =
 
 -- ---- the theorem, of these, of the refusals that the paper states as numbers, and of 02's levels and absent samples
 pub all-hold : Every (numbersToHold ++ refusals ++ ofLevels ++ ofAbsences)
-unfolding numbersToHold refusals ofLevels ofAbsences packedPair packedRecord recordFits recordWords numbers walk each row sum sumZ hadamardAt tileSum diagonalAnswer
-    diagonalOf rootOf scoreAnswer packedScore excessOf placeOf windowOf subpelOf planning.refusalOf planning.holds1 planning.holds2 holds3
+unfolding numbersToHold refusals ofLevels ofAbsences packedPair packedRecord recordFits recordWords numbers walk each row sum sumZ hadamardAt tileSum
+    diagonalAnswer diagonalOf rootOf scoreAnswer packedScore excessOf placeOf windowOf subpelOf planning.refusalOf planning.holds1 planning.holds2 holds3
     planning.axisHolds chromaHolds planesHold planning.vectorFits planning.entryHolds allFit turnAt blockAt slotsAt stepOf stepWith quietStep quietRecord
     badStep badRecord filledWith settledAt spotOf chromaPlace negativeOf axisOf shapeOf evaluation.refusalOf evaluation.holds1 evaluation.holds2
     evaluation.referenceHolds evaluation.referencesHold anyUpto isWide recordAt recordOf wordsFrom finishAnswer positionRefusal blockRefusal orderRefusal

@@ -1,6 +1,6 @@
--- 02, Two, of the lent buffer. After an accepted evaluation the fifth number that stands in it for a bad record is how many of the reference's samples at the vector
--- beside it are absent: 0 exactly where each of them was real, and all exactly where none was. A record that isn't bad has -1 there. What the samples are is
--- five_numbers' `EachPlane`, the shapes that best's `AgreeAt` compares. Assumes nothing.
+-- 02, Two, of the lent buffer. After an accepted evaluation the fifth number that stands in it for a bad record is how many of the reference's samples at the
+-- vector beside it are absent: 0 exactly where each of them was real, and all exactly where none was. A record that isn't bad has -1 there. What the samples
+-- are is five_numbers' `EachPlane`, the shapes that best's `AgreeAt` compares. Assumes nothing.
 use mathlib.Core.Path.{_≡_, refl, sym, ap, subst, _∙_}
 use mathlib.Core.Bool.{true, false}
 use mathlib.Core.List.{List}

@@ -1,5 +1,5 @@
--- The third demand, as 02, Two, completes it: at pel 2 or 4 a SAD of 0 with a count of 0 is a match of real samples. Every sample compared at the vector in the buffer
--- was there in the reference, and the source's weighs what that byte weighs: "two blocks of nothing" are told apart from it. Assumes nothing.
+-- The third demand, as 02, Two, completes it: at pel 2 or 4 a SAD of 0 with a count of 0 is a match of real samples. Every sample compared at the vector in the
+-- buffer was there in the reference, and the source's weighs what that byte weighs: "two blocks of nothing" are told apart from it. Assumes nothing.
 use mathlib.Core.Path.{_≡_, sym, _∙_}
 use mathlib.Core.Bool.{true, false}
 use mathlib.Core.List.{List}
@@ -79,4 +79,5 @@ pub real-law : (q : Request) (records : List ℤ) (luma u v referenceLuma refere
     ZeroLaw q records luma u v referenceLuma referenceU referenceV bests → CountLaw q records referenceLuma referenceU referenceV bests →
     RealLaw q records luma u v referenceLuma referenceU referenceV bests
 real-law q records luma u v referenceLuma referenceU referenceV bests zero count i there bad pel sad fifth =
-    matched (taskOf q) (recordAt records i) luma u v referenceLuma referenceU referenceV _ _ (zero i there bad pel .0 sad) (count i there .all-real bad .0 fifth)
+    matched (taskOf q) (recordAt records i) luma u v referenceLuma referenceU referenceV _ _
+    (zero i there bad pel .0 sad) (count i there .all-real bad .0 fifth)

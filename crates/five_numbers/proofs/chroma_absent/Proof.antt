@@ -88,13 +88,26 @@ absent-requires-2 c κs =
 same-count : (samples : List ℕ) (own : Place) {a A : ℤ} {v W h H : ℕ} → a ≡ A → v ≡ W → h ≡ H → placeAbsent samples own a v h ≡ placeAbsent samples own A W H
 same-count samples own e f g = cc
 
-in-u : (c : tie.After-absent) → let s = begun (c .before) in c .absent .result ≡ planeAbsent (s .args .task) (s .args .given) (s .args .task .reference .u) (s .args .reference-u .now) (s .args .x) (s .args .y)
+-- what is promised of a plane's count, by the numbers that are handed on
+abbrev Told : tie.After-chroma-side2 → List ℕ → Place → ℕ → Type 0
+Told k samples own count = count ≡ placeAbsent samples own (toZ w64 (ofZ w64 (offset k .vector-offset .result))) (k .before .chroma-side .result) (k .chroma-side2 .result)
+
+counted : (k : tie.After-chroma-side2) (samples : List ℕ) (own : Place) {count : ℕ} → Told k samples own count →
+    let s = begun k in count ≡ planeAbsent (s .args .task) (s .args .given) own samples (s .args .x) (s .args .y)
 unfolding planeAbsent
-in-u c = let k = c .before in c .absent .ensures ∙ same-count (begun k .args .reference-u .now) (begun k .args .task .reference .u) (at-is (offset k)) (w-is (k .before)) (h-is k)
+counted k samples own told = told ∙ same-count samples own (at-is (offset k)) (w-is (k .before)) (h-is k)
+
+in-u : (c : tie.After-absent) → let s = begun (c .before) in c .absent .result ≡ planeAbsent (s .args .task) (s .args .given) (s .args .task .reference .u) (s .args .reference-u .now) (s .args .x) (s .args .y)
+in-u c =
+    let k = c .before in
+    let told : Told k (begun k .args .reference-u .now) (begun k .args .task .reference .u) (c .absent .result) = c .absent .ensures in
+    counted k (begun k .args .reference-u .now) (begun k .args .task .reference .u) told
 
 in-v : (c : tie.After-absent2) → let s = begun (c .before .before) in c .absent2 .result ≡ planeAbsent (s .args .task) (s .args .given) (s .args .task .reference .v) (s .args .reference-v .now) (s .args .x) (s .args .y)
-unfolding planeAbsent
-in-v c = let k = c .before .before in c .absent2 .ensures ∙ same-count (begun k .args .reference-v .now) (begun k .args .task .reference .v) (at-is (offset k)) (w-is (k .before)) (h-is k)
+in-v c =
+    let k = c .before .before in
+    let told : Told k (begun k .args .reference-v .now) (begun k .args .task .reference .v) (c .absent2 .result) = c .absent2 .ensures in
+    counted k (begun k .args .reference-v .now) (begun k .args .task .reference .v) told
 
 add-result : tie.Need-add-result
 add-result c =
