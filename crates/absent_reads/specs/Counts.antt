@@ -1,16 +1,19 @@
--- What a count says: 0 that every sample was there, all that none was, and it is never more than all. Assumes nothing.
+-- What a count says: 0 that every sample was there, all that none was, and it is never more than all; and where it is 0 at a glance. Assumes nothing.
 use mathlib.Core.Path.{_≡_, refl, sym, ap, _∙_}
 use mathlib.Core.List.{List}
 use mathlib.Core.Logic.{⊎-elim, _↔_}
 use Prim.Native.Nat.{ℕ, zero, suc, _+_, _*_, _≤_, _<_}
+use native.Mathlib.Nat.{mul-le-mul-right}
 use native.Mathlib.Omega.{arith}
-use lib.IntN.{ℤ}
+use borrow.Author.Tests.{lt-ltb}
+use lib.IntN.{ℤ, pos}
+use lib.ListN.{length, getD}
 use Rattle.whole.specs.Signed.{lt-or-ge}
 use Rattle.distance.specs.Distance.{sum}
 use Rattle.distance.specs.Sums.{sum-suc, sum-eq, sum-below, sum-none, sum-part}
 use Rattle.plane.specs.declared.Read.{Read}
 use Rattle.plane.specs.declared.Read.the-variants.{Inside, Outside}
-use Rattle.plane.specs.Samples.{weight}
+use Rattle.plane.specs.Samples.{readAt, weight}
 use Rattle.absent_reads.specs.Absent.{absence, Real, readsFrom, absentIn, AllReal, NoneReal}
 
 -- ---- of one read
@@ -96,3 +99,12 @@ module _ (s : List ℕ) (at : ℤ) (pitch w h : ℕ) where
 
   pub all-absent : (absentIn s at pitch w h ≡ w * h) ↔ NoneReal s at pitch w h
   all-absent = (none-real, counts-all)
+
+-- ---- a block that lies in the data, with a row more, lacks nothing
+pub lacks-nothing : (s : List ℕ) (n pitch w h : ℕ) → n + (h * pitch + w) ≤ length s → absentIn s (pos n) pitch w h ≡ 0
+unfolding readAt
+lacks-nothing s n pitch w h l =
+    none-absent s (pos n) pitch w h .1
+    (λ y x a b.
+    let above = mul-le-mul-right {m = y} {n = h} pitch (omega arith) in
+    record { byte = getD s (n + (y * pitch + x)) 0; is = rw (lt-ltb (n + (y * pitch + x)) (length s) (omega arith)) refl })

@@ -2,6 +2,7 @@
 // there. A row is counted at once: what it shares with the data is there, and the rest of it is not.
 use plane::Place;
 ghost use mathlib.Core.Path.{_≡_};
+ghost use mathlib.Core.Bool.{true};
 ghost use Prim.Native.Nat.{_≤_};
 ghost use lib.ListN.{length};
 ghost use Rattle.whole.specs.Interval.{Within};
@@ -48,6 +49,18 @@ fn absent_in(samples: &[u8], at: i64, pitch: usize, w: usize, h: usize) -> u32
     total
 }
 
+// Whether the block and a row more lie in the data, as most do: then there is nothing to count.
+fn lies_inside(samples: &[u8], at: i64, pitch: usize, w: usize, h: usize) -> bool
+    requires { ⌜ Near at × (pitch ≤ 65536) ⌝ }
+    requires { ⌜ (w ≤ 16) × (h ≤ 16) ⌝ }
+    ensures { λ r. ⌜ (r ≡ true → absentIn (now (samples .entry)) at pitch w h ≡ 0) ⌝ }
+{
+    if at < 0 {
+        return false;
+    }
+    at as usize + (h * pitch + w) <= samples.len()
+}
+
 // The rows step by the plane's own pitch, as those that are compared do.
 pub fn absent(samples: &[u8], place: Place, at: i64, w: usize, h: usize) -> u32
     requires { ⌜ Placed place × Near at ⌝ }
@@ -55,5 +68,9 @@ pub fn absent(samples: &[u8], place: Place, at: i64, w: usize, h: usize) -> u32
     ensures { λ r. ⌜ r ≡ placeAbsent (now (samples .entry)) place at w h ⌝ }
 {
     let pitch = place.pitch;
-    absent_in(samples, at, pitch as usize, w, h)
+    let step = pitch as usize;
+    if lies_inside(samples, at, step, w, h) {
+        return 0;
+    }
+    absent_in(samples, at, step, w, h)
 }
