@@ -1,5 +1,5 @@
 -- What a count says: 0 that every sample was there, all that none was, and it is never more than all; and where it is 0 at a glance. Assumes nothing.
-use mathlib.Core.Path.{_≡_, refl, sym, ap, _∙_}
+use mathlib.Core.Path.{_≡_, refl, ap, _∙_}
 use mathlib.Core.List.{List}
 use mathlib.Core.Logic.{⊎-elim, _↔_}
 use Prim.Native.Nat.{ℕ, zero, suc, _+_, _*_, _≤_, _<_}
@@ -10,7 +10,7 @@ use lib.IntN.{ℤ, pos}
 use lib.ListN.{length, getD}
 use Rattle.whole.specs.Signed.{lt-or-ge}
 use Rattle.distance.specs.Distance.{sum}
-use Rattle.distance.specs.Sums.{sum-suc, sum-eq, sum-below, sum-none, sum-part}
+use Rattle.distance.specs.Sums.{sum-suc, sum-below, sum-none, sum-part}
 use Rattle.plane.specs.declared.Read.{Read}
 use Rattle.plane.specs.declared.Read.the-variants.{Inside, Outside}
 use Rattle.plane.specs.Samples.{readAt, weight}

@@ -1,5 +1,5 @@
 -- Counting by rows: of the places of a row, those that are absent and those that the row shares with the data are all. Assumes nothing.
-use mathlib.Core.Path.{_≡_, refl, ap, _∙_}
+use mathlib.Core.Path.{_≡_, refl, ap}
 use mathlib.Core.List.{List}
 use mathlib.Core.Logic.{⊎-elim}
 use Prim.Native.Nat.{ℕ, zero, suc, _+_, _-_, _*_, _≤_, _<_, min}
@@ -8,7 +8,7 @@ use native.Mathlib.Omega.{arith}
 use borrow.Author.Tests.{lt-ltb, le-ltb}
 use lib.IntN.{ℤ, pos, negsuc, _+ℤ_}
 use lib.ListN.{length}
-use Rattle.whole.specs.Signed.{P, N, signed, add-is, eq-of, lt-or-ge}
+use Rattle.whole.specs.Signed.{P, N, add-is, eq-of, lt-or-ge}
 use Rattle.distance.specs.Distance.{sum}
 use Rattle.distance.specs.Sums.{sum-zero, sum-suc, sum-eq}
 use Rattle.plane.specs.Samples.{readAt}

@@ -1,25 +1,21 @@
 -- 02, Two: "finishing ignores the fifth". Bests that are alike but for their fifth numbers, whatever those are, are answered alike, and leave the same
 -- vectors and the same output. Assumes nothing.
-use mathlib.Core.Path.{_≡_, refl, sym, ap, _∙_}
-use mathlib.Core.Bool.{Bool, _||_, not, cond}
+use mathlib.Core.Path.{_≡_, refl}
+use mathlib.Core.Bool.{Bool}
 use mathlib.Core.List.{List}
-use Prim.Native.Nat.{ℕ, zero, suc, _+_, _*_, _<_}
+use Prim.Native.Nat.{ℕ, zero, suc, _<_}
 use native.Mathlib.Omega.{arith}
-use lib.Dec.{eqb}
 use lib.IntN.{ℤ}
 use lib.ListN.{length}
-use Rattle.limits.specs.Sizes.{numbersPerBest}
-use Rattle.limits.specs.Refusals.{first, anyUpto, kept}
+use Rattle.limits.specs.Refusals.{anyUpto}
 use Rattle.finishing.specs.Finish.{
   xAt,
   yAt,
   sadAt,
   averageAt,
-  writtenUpto,
   storing,
   putting,
   refused5,
-  isWild,
   refused7,
   finishAnswer,
   finishVectors,
@@ -58,7 +54,7 @@ module _ (nx ny : ℤ) (indices bests others : List ℤ) (diagonal : ℤ) (asked
   vectors-alike vectors room =
       let e = answer-alike (length vectors) room in
       let f = written-alike (storing indices bests) (storing indices others) vectors (length indices)
-          (λ n held l. let k = alike n l in rw (k .x, k .y, k .sad)) in
+      (λ n held l. let k = alike n l in rw (k .x, k .y, k .sad)) in
       rw (e, f)
 
   pub output-alike : (held : ℕ) (output : List ℤ) →
@@ -67,5 +63,5 @@ module _ (nx ny : ℤ) (indices bests others : List ℤ) (diagonal : ℤ) (asked
   output-alike held output =
       let e = answer-alike held (length output) in
       let f = written-alike (putting indices bests diagonal) (putting indices others diagonal) output (length indices)
-          (λ n written l. let k = alike n l in rw (k .x, k .y, k .sad, k .average)) in
+      (λ n written l. let k = alike n l in rw (k .x, k .y, k .sad, k .average)) in
       rw (e, f)

@@ -133,7 +133,7 @@ module _ (task : Task) (given : Record) (referenceLuma referenceU referenceV : L
   pub count-none : (absentAt task given referenceLuma referenceU referenceV x y ≡ 0) ↔ RealAt task given referenceLuma referenceU referenceV x y
   count-none =
       let law = count-is AllReal (λ w h. 0) none-absent task given referenceLuma referenceU referenceV x y
-          (apart-above (isNegative given) (omega arith) (omega arith) (omega arith)) in
+      (apart-above (isNegative given) (omega arith) (omega arith) (omega arith)) in
       ((λ e. law .0 (e ∙ sym (no-samples (isNegative given)))), (λ k. law .1 k ∙ no-samples (isNegative given)))
 
   -- ---- and all that none was

@@ -109,15 +109,7 @@ pub fn five_of(
     if window::is_bad(given) {
         let x = best.x;
         let y = best.y;
-        let absent = absent_at(
-            task,
-            given,
-            x,
-            y,
-            reference_luma,
-            reference_u,
-            reference_v,
-        );
+        let absent = absent_at(task, given, x, y, reference_luma, reference_u, reference_v);
         return Five {
             best: best,
             outside: Absences::Counted(absent as i32),

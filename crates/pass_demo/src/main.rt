@@ -453,7 +453,12 @@ fn evaluated(records: &[i32; 288], bests: &mut [i32; 120]) -> u32 {
     )
 }
 
-fn finished(diagonal: i32, indices: &[i32; 24], bests: &[i32; 120], vectors: &mut [i32; 72]) -> u32 {
+fn finished(
+    diagonal: i32,
+    indices: &[i32; 24],
+    bests: &[i32; 120],
+    vectors: &mut [i32; 72],
+) -> u32 {
     let mut output = [0i32; 48];
     finishing::finish(6, 4, indices, bests, diagonal, true, vectors, &mut output)
 }

@@ -117,7 +117,7 @@ pub fn sample(samples: &[u8], at: i64) -> Read
     Read::Outside
 }
 
-// What a read counts in a cost. Only here does an absent sample become 0.
+// What a read counts in a cost. Only here does a read that found nothing become 0.
 pub fn weight(read: Read) -> u8
     ensures { λ r. ⌜ r ≡ weight read ⌝ }
 {

@@ -1,27 +1,22 @@
 -- 02, Two, of the lent buffer. After an accepted evaluation the fifth number that stands in it for a bad record is how many of the reference's samples at the
 -- vector beside it are absent: 0 exactly where each of them was real, and all exactly where none was. A record that isn't bad has -1 there. What the samples
 -- are is five_numbers' `EachPlane`, the shapes that best's `AgreeAt` compares. Assumes nothing.
-use mathlib.Core.Path.{_≡_, refl, sym, ap, subst, _∙_}
+use mathlib.Core.Path.{_≡_, sym, ap, _∙_}
 use mathlib.Core.Bool.{true, false}
 use mathlib.Core.List.{List}
-use mathlib.Core.Logic.{_⊎_, _↔_}
+use mathlib.Core.Logic.{_↔_}
 use Prim.Native.Nat.{ℕ, _+_, _*_, _/_, _<_}
 use lib.IntN.{ℤ, pos, negsuc, natAbs}
 use lib.ListN.{length, getD}
 use Rattle.limits.specs.Sizes.{wordsPerRecord, numbersPerBest}
 use Rattle.records.specs.declared.Record.{Record}
-use Rattle.window.specs.Windows.{isBad, isNegative}
+use Rattle.window.specs.Windows.{isBad}
 use Rattle.record_slice.specs.RecordSlice.{recordAt}
-use Rattle.plane.specs.Samples.{weight, sampleAt}
-use Rattle.absent_reads.specs.Absent.{Real, readsFrom}
-use Rattle.absent_reads.specs.Counts.{real-weighs}
 use Rattle.best.specs.declared.Task.{Task}
-use Rattle.best.specs.declared.Best.{Best}
 use Rattle.five_numbers.specs.Five.{absentAt}
 use Rattle.five_numbers.specs.Counted.{RealAt, NoneRealAt, comparedOf, fifth-bad, fifth-fine, count-none, count-all}
 use Rattle.evaluation.specs.declared.Request.{Request}
-use Rattle.evaluation.specs.Evaluated.{taskOf, evaluateAnswer, evaluateBests}
-use Rattle.evaluation.specs.BestsRead.{Reads}
+use Rattle.evaluation.specs.Evaluated.{taskOf, evaluateAnswer}
 use Rattle.evaluation.specs.Zero.{after, reads}
 
 -- ---- what is said of three numbers that stand in the buffer for a record: x, y and the fifth

@@ -1,6 +1,6 @@
 -- The third demand, as 02, Two, completes it: at pel 2 or 4 a SAD of 0 with a count of 0 is a match of real samples. Every sample compared at the vector in the
 -- buffer was there in the reference, and the source's weighs what that byte weighs: "two blocks of nothing" are told apart from it. Assumes nothing.
-use mathlib.Core.Path.{_≡_, sym, _∙_}
+use mathlib.Core.Path.{_≡_, _∙_}
 use mathlib.Core.Bool.{true, false}
 use mathlib.Core.List.{List}
 use mathlib.Core.Logic.{_⊎_}
@@ -26,9 +26,9 @@ use Rattle.best.specs.Best.{widthOf, heightOf, sourceBlock, lumaReference, chro
 use Rattle.best.specs.Zero.{AgreeAt}
 use Rattle.five_numbers.specs.Counted.{RealAt}
 use Rattle.evaluation.specs.declared.Request.{Request}
-use Rattle.evaluation.specs.Evaluated.{taskOf, evaluateAnswer}
-use Rattle.evaluation.specs.Zero.{ZeroLaw, Bytes, after, zero-law}
-use Rattle.zero_law.specs.Counted.{CountLaw, count-law}
+use Rattle.evaluation.specs.Evaluated.{taskOf}
+use Rattle.evaluation.specs.Zero.{ZeroLaw}
+use Rattle.zero_law.specs.Counted.{CountLaw}
 
 -- ---- a sample of the source beside what was read in the reference: a byte was there, and both are it
 pub record Matched (read : Read) (source : ℕ) : Type 0 where

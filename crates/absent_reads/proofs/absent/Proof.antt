@@ -1,5 +1,5 @@
 -- The pitch is handed on as it is, and a block that lies inside lacks nothing. Assumes nothing.
-use mathlib.Core.Path.{_≡_, sym, ap, _∙_}
+use mathlib.Core.Path.{sym}
 use Prim.Native.Nat.{_≤_}
 use lib.IntN.{natAbs}
 use mir.Facts.{toZ-ofZ}
@@ -7,7 +7,6 @@ use mir.Syntax.{w32, w64}
 use mir.Val.{toZ, ofZ}
 use Rattle.whole.specs.Signed.{signed, abs-is}
 use Rattle.whole.specs.Interval.{Is, is-within, ask-unsigned}
-use Rattle.plane.specs.Places.{Near}
 use Rattle.absent_reads.proofs.absent.Statement.{statement}
 use Rattle.absent_reads.proofs.absent.Tie as tie
 

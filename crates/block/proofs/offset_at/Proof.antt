@@ -1,5 +1,4 @@
 -- The offset lies in the data, so that no bit is cut. Assumes nothing.
-use mathlib.Core.Path.{_≡_}
 use lib.IntN.{ℤ}
 use mir.Syntax.{w32, w64}
 use mir.Val.{SFits, toZ, ofZ}

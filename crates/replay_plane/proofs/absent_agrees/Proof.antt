@@ -1,6 +1,5 @@
 -- A plane that was found to be served is asked. The size is the first of the tests, and by what the length says. Assumes nothing.
 use borrow.Author.Needs.{needs}
-use mathlib.Core.Bool.{_&&_}
 use mathlib.Core.Path.{_≡_}
 use borrow.Author.Tests.{not-false}
 use lib.IntN.{pos}

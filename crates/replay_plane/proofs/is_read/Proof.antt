@@ -1,9 +1,7 @@
 -- The size is the first of the tests, by what was read. Assumes nothing.
 use borrow.Author.Needs.{needs}
-use mathlib.Core.Path.{_≡_, sym, subst}
-use mathlib.Core.Bool.{true, _&&_}
-use Prim.Native.Nat.{ℕ, _+_}
-use lib.Dec.{eqb}
+use mathlib.Core.Path.{sym, subst}
+use Prim.Native.Nat.{_+_}
 use Rattle.cases.specs.Places.{Sized}
 use Rattle.plane.specs.declared.Read.{Read}
 use Rattle.whole.specs.Truth.{left-of}

@@ -1,9 +1,8 @@
 -- A plane that was found to be served is asked. What was read says whether there are two answers or one. Assumes nothing.
 use borrow.Author.Needs.{needs}
-use mathlib.Core.Bool.{_&&_}
 use mathlib.Core.Path.{_≡_, sym}
 use mathlib.Core.Logic.{_⊎_, inl, inr}
-use Prim.Native.Nat.{ℕ, _+_}
+use Prim.Native.Nat.{ℕ}
 use native.Mathlib.Omega.{arith}
 use borrow.Author.Tests.{not-false}
 use lib.IntN.{pos}

@@ -23,14 +23,14 @@ returns c =
     let Law : List ℤ → Type 0 = Known q (s .records .now) (s .luma .now) (s .u .now) (s .v .now) (s .reference-luma .now) (s .reference-u .now) (s .reference-v .now) in
     let made = evaluateBests q (s .records .now) (s .luma .now) (s .u .now) (s .v .now) (s .reference-luma .now) (s .reference-u .now) (s .reference-v .now) (s .bests .now) in
     let law : called .evaluate .result ≡ 0 → Law made = λ done.
-        let zero = zero-law q (s .records .now) (s .luma .now) (s .u .now) (s .v .now) (s .reference-luma .now) (s .reference-u .now) (s .reference-v .now) (s .bests .now) (sym answer ∙ done)
-            (λ n. omega (arith, known .before .before .before .before .before .shared-slice-known .given n)) (λ n. omega (arith, known .before .before .shared-slice-known4 .given n)) in
-        let counts = count-law q (s .records .now) (s .luma .now) (s .u .now) (s .v .now) (s .reference-luma .now) (s .reference-u .now) (s .reference-v .now) (s .bests .now) (sym answer ∙ done) in
-        record {
-          zero = zero;
-          counts = counts;
-          real = real-law q (s .records .now) (s .luma .now) (s .u .now) (s .v .now) (s .reference-luma .now) (s .reference-u .now) (s .reference-v .now) made zero counts;
-        } in
+    let zero = zero-law q (s .records .now) (s .luma .now) (s .u .now) (s .v .now) (s .reference-luma .now) (s .reference-u .now) (s .reference-v .now) (s .bests .now) (sym answer ∙ done)
+    (λ n. omega (arith, known .before .before .before .before .before .shared-slice-known .given n)) (λ n. omega (arith, known .before .before .shared-slice-known4 .given n)) in
+    let counts = count-law q (s .records .now) (s .luma .now) (s .u .now) (s .v .now) (s .reference-luma .now) (s .reference-u .now) (s .reference-v .now) (s .bests .now) (sym answer ∙ done) in
+    record {
+      zero = zero;
+      counts = counts;
+      real = real-law q (s .records .now) (s .luma .now) (s .u .now) (s .v .now) (s .reference-luma .now) (s .reference-u .now) (s .reference-v .now) made zero counts;
+    } in
     (answer, (left, λ done. subst Law (sym left) (law done)))
 
 pub evaluate-knowing-spec : {M : Type 1} → statement M
