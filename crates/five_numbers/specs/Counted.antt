@@ -77,19 +77,18 @@ inAll negative luma chroma = luma + cond negative 0 (chroma + chroma)
 abbrev pub comparedOf : Task → Record → ℕ
 comparedOf task given = inAll (isNegative given) (widthOf task given * heightOf task given) (chromaWidth task given * chromaHeight task given)
 
--- ---- three counts that are all at most, or all at least, some numbers, and together are as large, are each as large
-abbrev Apart : (negative : Bool) (l a b L C : ℕ) → Type 0
-Apart negative l a b L C = (l ≡ L) × ((negative ≡ false → a ≡ C) × (negative ≡ false → b ≡ C))
+-- ---- three counts that are each at most another, and together as large, are each as large
+abbrev Alike : (negative : Bool) (l a b L A B : ℕ) → Type 0
+Alike negative l a b L A B = (l ≡ L) × ((negative ≡ false → a ≡ A) × (negative ≡ false → b ≡ B))
 
-apart-below : (negative : Bool) {l a b L C : ℕ} → l ≤ L → a ≤ C → b ≤ C → l + cond negative 0 (a + b) ≡ inAll negative L C → Apart negative l a b L C
-apart-below true p q r e = (omega arith, ((λ plain. absurd (holds (sym plain))), (λ plain. absurd (holds (sym plain)))))
-apart-below false p q r e = (omega arith, ((λ _. omega arith), (λ _. omega arith)))
+apart : (negative : Bool) {l a b L A B : ℕ} → l ≤ L → a ≤ A → b ≤ B → l + cond negative 0 (a + b) ≡ L + cond negative 0 (A + B) → Alike negative l a b L A B
+apart true p q r e = (omega arith, ((λ plain. absurd (holds (sym plain))), (λ plain. absurd (holds (sym plain)))))
+apart false p q r e = (omega arith, ((λ _. omega arith), (λ _. omega arith)))
 
-apart-above : (negative : Bool) {l a b L C : ℕ} → L ≤ l → C ≤ a → C ≤ b → l + cond negative 0 (a + b) ≡ inAll negative L C → Apart negative l a b L C
-apart-above true p q r e = (omega arith, ((λ plain. absurd (holds (sym plain))), (λ plain. absurd (holds (sym plain)))))
-apart-above false p q r e = (omega arith, ((λ _. omega arith), (λ _. omega arith)))
+turned : {negative : Bool} {l a b L A B : ℕ} → Alike negative l a b L A B → Alike negative L A B l a b
+turned k = (sym (k .0), ((λ plain. sym (k .1 .0 plain)), (λ plain. sym (k .1 .1 plain))))
 
-together : (negative : Bool) {l a b L C : ℕ} → Apart negative l a b L C → l + cond negative 0 (a + b) ≡ inAll negative L C
+together : (negative : Bool) {l a b L C : ℕ} → Alike negative l a b L C C → l + cond negative 0 (a + b) ≡ inAll negative L C
 together true k = omega (arith, k .0)
 together false k = omega (arith, k .0, k .1 .0 refl, k .1 .1 refl)
 
@@ -111,18 +110,18 @@ module _ (Q : OfSamples) (t : ℕ → ℕ → ℕ) (each : (s : List ℕ) (at : 
   abbrev C : ℕ
   C = t (chromaWidth task given) (chromaHeight task given)
 
-  planes-are : Apart (isNegative given) l a b L C ↔ EachPlane task given referenceLuma referenceU referenceV x y Q
+  planes-are : Alike (isNegative given) l a b L C C ↔ EachPlane task given referenceLuma referenceU referenceV x y Q
   unfolding lumaAbsent planeAbsent
   planes-are = (
     (λ k. record { in-luma = each _ _ _ _ _ .0 (k .0); in-u = λ plain. each _ _ _ _ _ .0 (k .1 .0 plain); in-v = λ plain. each _ _ _ _ _ .0 (k .1 .1 plain) }),
     (λ k. (each _ _ _ _ _ .1 (k .in-luma), ((λ plain. each _ _ _ _ _ .1 (k .in-u plain)), (λ plain. each _ _ _ _ _ .1 (k .in-v plain))))),
   )
 
-  count-is : (l + cond (isNegative given) 0 (a + b) ≡ inAll (isNegative given) L C → Apart (isNegative given) l a b L C) →
+  count-is : (l + cond (isNegative given) 0 (a + b) ≡ inAll (isNegative given) L C → Alike (isNegative given) l a b L C C) →
       (absentAt task given referenceLuma referenceU referenceV x y ≡ inAll (isNegative given) L C)
       ↔ EachPlane task given referenceLuma referenceU referenceV x y Q
   unfolding absentAt chromaAbsent
-  count-is apart = ((λ e. planes-are .0 (apart e)), (λ k. together (isNegative given) (planes-are .1 k)))
+  count-is each-is = ((λ e. planes-are .0 (each-is e)), (λ k. together (isNegative given) (planes-are .1 k)))
 
 module _ (task : Task) (given : Record) (referenceLuma referenceU referenceV : List ℕ) (x y : ℤ) where
   no-samples : (negative : Bool) → inAll negative 0 0 ≡ 0
@@ -133,7 +132,7 @@ module _ (task : Task) (given : Record) (referenceLuma referenceU referenceV : L
   pub count-none : (absentAt task given referenceLuma referenceU referenceV x y ≡ 0) ↔ RealAt task given referenceLuma referenceU referenceV x y
   count-none =
       let law = count-is AllReal (λ w h. 0) none-absent task given referenceLuma referenceU referenceV x y
-      (apart-above (isNegative given) (omega arith) (omega arith) (omega arith)) in
+      (λ e. turned (apart (isNegative given) (omega arith) (omega arith) (omega arith) (sym e))) in
       ((λ e. law .0 (e ∙ sym (no-samples (isNegative given)))), (λ k. law .1 k ∙ no-samples (isNegative given)))
 
   -- ---- and all that none was
@@ -142,7 +141,7 @@ module _ (task : Task) (given : Record) (referenceLuma referenceU referenceV : L
   unfolding lumaAbsent planeAbsent
   count-all =
       count-is NoneReal (λ w h. w * h) all-absent task given referenceLuma referenceU referenceV x y
-      (apart-below (isNegative given) (absent-most _ _ _ _ _) (absent-most _ _ _ _ _) (absent-most _ _ _ _ _))
+      (apart (isNegative given) (absent-most _ _ _ _ _) (absent-most _ _ _ _ _) (absent-most _ _ _ _ _))
 
   -- of luma alone: a count of w x h is that no luma sample was real
   pub luma-all : (lumaAbsent task given referenceLuma x y ≡ widthOf task given * heightOf task given)

@@ -1,48 +1,37 @@
 -- Counted twice from the offset that was worked out for U. Assumes nothing.
 use borrow.Author.Needs.{needs}
-use mathlib.Core.Path.{_≡_, _∙_}
+use mathlib.Core.Path.{_≡_, refl, _∙_}
 use mathlib.Core.List.{List}
 use Prim.Native.Nat.{ℕ}
 use native.Mathlib.Omega.{arith}
-use lib.IntN.{ℤ}
 use mir.Syntax.{w32, w64}
 use mir.Val.{toZ, ofZ}
-use Rattle.whole.specs.Signed.{got}
 use Rattle.whole.specs.Interval.{Is, is-within, read-within}
 use Rattle.plane.specs.declared.Place.{Place}
 use Rattle.plane.specs.Places.{Near}
 use Rattle.absent_reads.specs.Absent.{placeAbsent}
-use Rattle.tables.specs.declared.Reference.{Reference}
 use Rattle.tables.specs.Tables.{vectorOffset}
 use Rattle.best.specs.Best.{chromaWidth, chromaHeight, chromaReference}
 use Rattle.best.specs.Laws.{width-in, height-in, chroma-reached, chroma-sized}
 use Rattle.five_numbers.specs.Five.{planeAbsent, chromaAbsent}
 use Rattle.five_numbers.specs.Laws.{plane-few}
+use Rattle.five_numbers.proofs.Vector.{may-ask, offset-is, offset-near, same-count}
 use Rattle.five_numbers.proofs.chroma_absent.Statement.{statement}
 use Rattle.five_numbers.proofs.chroma_absent.Tie as tie
 
 -- ---- the offset
-x : (c : tie.Start) → Is w32 32768 65536 (toZ w32 (ofZ w32 (c .args .x))) (c .args .x)
-x c = is-within w32 (c .pre .1 .x-in) tt tt
-
-y : (c : tie.Start) → Is w32 32768 65536 (toZ w32 (ofZ w32 (c .args .y))) (c .args .y)
-y c = is-within w32 (c .pre .1 .y-in) tt tt
-
 vector-offset-requires : tie.Need-vector-offset-requires
-vector-offset-requires c κs =
-    let s = c .before .before .before in
-    rw (c .chroma-reference .ensures) (chroma-reached (s .pre .0), (read-within (x s), read-within (y s)))
+vector-offset-requires c κs = let s = c .before .before .before in may-ask (s .pre .1) (c .chroma-reference .ensures) (chroma-reached (s .pre .0))
 
-alike : {r R : Reference} {a b A B : ℤ} → r ≡ R → a ≡ A → b ≡ B → vectorOffset r a b ≡ vectorOffset R A B
-alike e f g = cc
+module _ (c : tie.After-vector-offset) where
+  abbrev asked : tie.Start
+  asked = c .before .before .before .before
 
-at-is : (c : tie.After-vector-offset) → let s = c .before .before .before .before in toZ w64 (ofZ w64 (c .vector-offset .result)) ≡ vectorOffset (chromaReference (s .args .task) (s .args .given)) (s .args .x) (s .args .y)
-at-is c =
-    let s = c .before .before .before .before in
-    got w64 (c .vector-offset .ok) (c .vector-offset .ensures .0 ∙ alike (c .before .chroma-reference .ensures) (x s .same) (y s .same))
+  at-is : toZ w64 (ofZ w64 (c .vector-offset .result)) ≡ vectorOffset (chromaReference (asked .args .task) (asked .args .given)) (asked .args .x) (asked .args .y)
+  at-is = offset-is (asked .pre .1) (c .before .chroma-reference .ensures) (c .vector-offset .ok) (c .vector-offset .ensures .0)
 
-at-near : (c : tie.After-vector-offset) → Near (toZ w64 (ofZ w64 (c .vector-offset .result)))
-at-near c = rw (got w64 (c .vector-offset .ok) (c .vector-offset .ensures .0)) (rw (c .vector-offset .ensures .0) at (c .vector-offset .ensures .1))
+  at-near : Near (toZ w64 (ofZ w64 (c .vector-offset .result)))
+  at-near = offset-near (asked .pre .1) (c .before .chroma-reference .ensures) (c .vector-offset .ok) (c .vector-offset .ensures .0) (c .vector-offset .ensures .1)
 
 -- ---- the sides
 module _ (c : tie.After-struct-told3) where
@@ -85,9 +74,6 @@ absent-requires-2 c κs =
     let size = chroma-sized fair in
     rw (w-is (k .before), h-is k) ((fair .reference-v, at-near (offset k)), (size .wide, size .high))
 
-same-count : (samples : List ℕ) (own : Place) {a A : ℤ} {v W h H : ℕ} → a ≡ A → v ≡ W → h ≡ H → placeAbsent samples own a v h ≡ placeAbsent samples own A W H
-same-count samples own e f g = cc
-
 -- what is promised of a plane's count, by the numbers that are handed on
 abbrev Told : tie.After-chroma-side2 → List ℕ → Place → ℕ → Type 0
 Told k samples own count = count ≡ placeAbsent samples own (toZ w64 (ofZ w64 (offset k .vector-offset .result))) (k .before .chroma-side .result) (k .chroma-side2 .result)
@@ -95,7 +81,7 @@ Told k samples own count = count ≡ placeAbsent samples own (toZ w64 (ofZ w64 (
 counted : (k : tie.After-chroma-side2) (samples : List ℕ) (own : Place) {count : ℕ} → Told k samples own count →
     let s = begun k in count ≡ planeAbsent (s .args .task) (s .args .given) own samples (s .args .x) (s .args .y)
 unfolding planeAbsent
-counted k samples own told = told ∙ same-count samples own (at-is (offset k)) (w-is (k .before)) (h-is k)
+counted k samples own told = told ∙ same-count samples {p = own} refl (at-is (offset k)) (w-is (k .before)) (h-is k)
 
 in-u : (c : tie.After-absent) → let s = begun (c .before) in c .absent .result ≡ planeAbsent (s .args .task) (s .args .given) (s .args .task .reference .u) (s .args .reference-u .now) (s .args .x) (s .args .y)
 in-u c =

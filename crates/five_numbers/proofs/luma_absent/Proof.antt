@@ -1,46 +1,36 @@
 -- Counted from the offset at which the vector's luma was compared. Assumes nothing.
 use borrow.Author.Needs.{needs}
-use mathlib.Core.Path.{_≡_, _∙_}
-use lib.IntN.{ℤ}
-use mir.Syntax.{w32, w64}
+use mathlib.Core.Path.{_≡_, ap, _∙_}
+use mir.Syntax.{w64}
 use mir.Val.{toZ, ofZ}
-use Rattle.whole.specs.Signed.{got}
-use Rattle.whole.specs.Interval.{Is, is-within, read-within}
 use Rattle.plane.specs.Places.{Near}
 use Rattle.tables.specs.declared.Reference.{Reference}
 use Rattle.tables.specs.Tables.{vectorOffset}
 use Rattle.best.specs.Best.{lumaReference}
 use Rattle.best.specs.Laws.{luma-reached, searched-sized}
 use Rattle.five_numbers.specs.Five.{lumaAbsent}
+use Rattle.five_numbers.proofs.Vector.{may-ask, offset-is, offset-near, same-count}
 use Rattle.five_numbers.proofs.luma_absent.Statement.{statement}
 use Rattle.five_numbers.proofs.luma_absent.Tie as tie
 
-x : (c : tie.Start) → Is w32 32768 65536 (toZ w32 (ofZ w32 (c .args .x))) (c .args .x)
-x c = is-within w32 (c .pre .1 .x-in) tt tt
-
-y : (c : tie.Start) → Is w32 32768 65536 (toZ w32 (ofZ w32 (c .args .y))) (c .args .y)
-y c = is-within w32 (c .pre .1 .y-in) tt tt
-
+-- ---- the offset
 vector-offset-requires : tie.Need-vector-offset-requires
-vector-offset-requires c κs =
-    let s = c .before .before .before in
-    rw (c .before .luma-reference .ensures) (luma-reached (s .pre .0), (read-within (x s), read-within (y s)))
+vector-offset-requires c κs = let s = c .before .before .before in may-ask (s .pre .1) (c .before .luma-reference .ensures) (luma-reached (s .pre .0))
 
-alike : {r R : Reference} {a b A B : ℤ} → r ≡ R → a ≡ A → b ≡ B → vectorOffset r a b ≡ vectorOffset R A B
-alike e f g = cc
+module _ (c : tie.After-vector-offset) where
+  abbrev start : tie.Start
+  start = c .before .before .before .before
 
-at-is : (c : tie.After-vector-offset) → let s = c .before .before .before .before in toZ w64 (ofZ w64 (c .vector-offset .result)) ≡ vectorOffset (lumaReference (s .args .task) (s .args .given)) (s .args .x) (s .args .y)
-at-is c =
-    let s = c .before .before .before .before in
-    got w64 (c .vector-offset .ok) (c .vector-offset .ensures .0 ∙ alike (c .before .before .luma-reference .ensures) (x s .same) (y s .same))
+  at-is : toZ w64 (ofZ w64 (c .vector-offset .result)) ≡ vectorOffset (lumaReference (start .args .task) (start .args .given)) (start .args .x) (start .args .y)
+  at-is = offset-is (start .pre .1) (c .before .before .luma-reference .ensures) (c .vector-offset .ok) (c .vector-offset .ensures .0)
 
-at-near : (c : tie.After-vector-offset) → Near (toZ w64 (ofZ w64 (c .vector-offset .result)))
-at-near c = rw (got w64 (c .vector-offset .ok) (c .vector-offset .ensures .0)) (rw (c .vector-offset .ensures .0) at (c .vector-offset .ensures .1))
+  at-near : Near (toZ w64 (ofZ w64 (c .vector-offset .result)))
+  at-near = offset-near (start .pre .1) (c .before .before .luma-reference .ensures) (c .vector-offset .ok) (c .vector-offset .ensures .0) (c .vector-offset .ensures .1)
 
+-- ---- the count
 absent-requires : tie.Need-absent-requires
 absent-requires c κs =
-    let s = c .before .before .before .before .before .before in
-    let fair = s .pre .0 in
+    let fair = start (c .before .before) .pre .0 in
     let size = searched-sized fair in
     rw (c .before .before .before .before .luma-reference .ensures, c .before .width-of .ensures, c .height-of .ensures)
     ((fair .reference-luma, at-near (c .before .before)), (size .wide, size .high))
@@ -49,7 +39,9 @@ returns : tie.Need-returns
 unfolding lumaAbsent
 returns c =
     let k = c .before in
-    rw (at-is (k .before .before), k .before .before .before .before .luma-reference .ensures, k .before .width-of .ensures, k .height-of .ensures) at (c .absent .ensures)
+    let at = k .before .before in
+    c .absent .ensures
+    ∙ same-count (start at .args .reference-luma .now) (ap (λ (r : Reference). r .place) (at .before .before .luma-reference .ensures)) (at-is at) (k .before .width-of .ensures) (k .height-of .ensures)
 
 pub luma-absent-spec : {M : Type 1} → statement M
 luma-absent-spec =
