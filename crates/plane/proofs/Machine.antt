@@ -3,7 +3,7 @@ use mathlib.Core.Path.{_≡_, refl}
 use mathlib.Core.Bool.{true}
 use Prim.Native.Nat.{ℕ, _^_, _≤_, _<_}
 use native.Mathlib.Omega.{arith}
-use lib.Dec.{T, ltb, leb, ltb→lt, lit≤}
+use lib.Dec.{T, ltb, ltb→lt, lit≤}
 use lib.Bits.{bitAnd}
 use lib.IntN.{ℤ, pos, _-ℤ_, natAbs}
 use lib.Signed.{mag}
@@ -13,17 +13,13 @@ use mir.Facts.{toZ-pos}
 use Rattle.limits.specs.Ranges.{at-each-pel}
 use Rattle.whole.specs.Numbers.{modZ}
 use Rattle.whole.specs.Signed.{got, range}
-use Rattle.whole.specs.Interval.{Within, within-more, Is, is-arg}
+use Rattle.whole.specs.Interval.{Within, Is, is-arg}
 use Rattle.whole.specs.Wrapping.{masked}
 use Rattle.limits.specs.Limits.{isPel}
 
 -- a number kept in 64 bits, and read back
 abbrev pub as-64 : ℤ → ℤ
 as-64 z = toZ w64 (ofZ w64 z)
-
--- the same number, in a wider interval
-pub is-more : {w : Width} {l h l′ h′ : ℕ} {X x : ℤ} → Is w l h X x → T (leb l l′) → T (leb h h′) → Is w l′ h′ X x
-is-more p t u = record { same = p .same; lies = within-more (p .lies) t u }
 
 -- an unsigned number, cast to a signed width
 pub is-natural : {w : Width} {n : ℕ} (h : ℕ) → n ≤ h → T (ltb h (2 ^ hbits w)) → Is w h h (toZ w n) (pos n)

@@ -6,10 +6,7 @@ use native.Mathlib.Nat.{zero-div, mod-lt, div-add-mod'}
 use native.Mathlib.Omega.{arith}
 use lib.Arith.{digits-div}
 use lib.IntN.{ℤ, pos, negsuc, _+ℤ_, _*ℤ_}
-use lib.Signed.{quotZ, shrZ, mag-shr}
-use mir.Syntax.{Width}
-use mir.Val.{SFits}
-use mir.ValLaws.{sfits-le}
+use lib.Signed.{quotZ, shrZ}
 use Rattle.whole.specs.Numbers.{modZ}
 use Rattle.whole.specs.Signed.{P, N, neg-P, neg-N, add-is, times-is}
 
@@ -47,9 +44,6 @@ module _ {m : ℕ} (z q : ℤ) (r : ℕ) (small : r < m) (same : P z + N q * m �
   mod-only =
       let some : 0 < m = omega arith in
       omega (arith, floor-is some z, mod-below some z, ap (λ (k : ℤ). P k * m) floor-only, ap (λ (k : ℤ). N k * m) floor-only)
-
-pub fit-floor : {w : Width} {z : ℤ} (m : ℕ) → SFits w z → SFits w (shrZ z m)
-fit-floor {z = z} m f = sfits-le (mag-shr z m) f
 
 -- ---- the remainder does not see a multiple of the divisor
 pub mod-more : {m : ℕ} → 0 < m → (z k : ℤ) → modZ (z +ℤ k *ℤ pos m) m ≡ modZ z m

@@ -10,11 +10,11 @@ use lib.Signed.{ltZ, leZ}
 use mir.Syntax.{w32, w64}
 use mir.Val.{SFits, toZ}
 use Rattle.whole.specs.Signed.{signed}
-use Rattle.whole.specs.Interval.{Is, word, widened, is-literal, ask-cast, ask-add, is-add, ask-sub, is-sub, ask-times, is-times, ask-unsigned, fits}
+use Rattle.whole.specs.Interval.{Is, word, widened, is-literal, ask-cast, ask-add, is-add, ask-sub, is-sub, ask-times, is-times, ask-unsigned, fits, is-wider}
 use Rattle.limits.specs.Limits.{isLength}
 use Rattle.plane.specs.Places.{lastEnd}
 use Rattle.plane.specs.Offsets.{no-room, some-room}
-use Rattle.plane.proofs.Machine.{as-64, is-more, is-natural}
+use Rattle.plane.proofs.Machine.{as-64, is-natural}
 use Rattle.plane.proofs.keeps_length.Statement.{statement}
 use Rattle.plane.proofs.keeps_length.Tie as tie
 
@@ -26,7 +26,7 @@ returns c =
 -- ---- the sums, over what the machine reads of each number
 module _ {L H Q W l h q w : ℤ} (length-is : Is w64 1073741823 1073741823 L l) (height-is : Is w64 2147483648 2147483648 H h) (pitch-is : Is w64 2147483648 2147483648 Q q) (width-is : Is w64 2147483648 2147483648 W w) where
   steps : Is w64 2147483649 2147483649 (as-64 (H -ℤ pos 1)) (h -ℤ pos 1)
-  steps = is-more (is-sub height-is (is-literal w64 (pos 1)) tt tt) tt tt
+  steps = is-wider (is-sub height-is (is-literal w64 (pos 1)) tt tt) tt tt
 
   rows : Is w64 4611686020574871552 4611686020574871552 (as-64 (as-64 (H -ℤ pos 1) *ℤ Q)) ((h -ℤ pos 1) *ℤ q)
   rows = is-times steps pitch-is tt tt
