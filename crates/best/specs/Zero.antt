@@ -125,7 +125,7 @@ module _ (task : Task) (given : Record) (luma u v referenceLuma referenceU refer
         both : {a b c d : ℕ} → a ≡ c → b ≡ d → a + b ≡ c + d
         both e f = omega arith
 
-    held : heldAt k lumas chromas slot ≡ pos (costAt x y)
+    pub held : heldAt k lumas chromas slot ≡ pos (costAt x y)
     unfolding chromasOf
     held = ap pos (omega (arith, luma-held, chroma-held (isNegative given)))
 

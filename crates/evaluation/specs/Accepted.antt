@@ -1,35 +1,33 @@
 -- What passing the tests says: the refusals leave all that a block's best asks. Assumes nothing.
-use mathlib.Core.Path.{_≡_, refl, _∙_}
-use mathlib.Core.Bool.{Bool, true, false, _&&_, _||_, cond}
+use mathlib.Core.Path.{_≡_, _∙_}
+use mathlib.Core.Bool.{true, false, _&&_}
 use mathlib.Core.List.{List}
-use Prim.Native.Nat.{ℕ, _+_, _*_, _/_, _≤_, _<_}
-use native.Mathlib.Omega.{arith}
+use Prim.Native.Nat.{ℕ, _*_, _/_, _≤_, _<_}
 use borrow.Author.Tests.{leb-true}
 use lib.Dec.{eqb, leb}
-use lib.IntN.{ℤ, pos, negsuc, natAbs, _-ℤ_, _*ℤ_}
+use lib.IntN.{ℤ, pos, negsuc, _*ℤ_}
 use lib.ListN.{length}
-use lib.Signed.{ltZ, leZ, _≤ℤ_}
 use Prim.Native.Nat.{_%_}
 use Rattle.limits.specs.Sizes.{wordsPerRecord, numbersPerBest}
 use Rattle.limits.specs.Ranges.{radius-within, shift-within, same-is, lies}
 use Rattle.whole.specs.Numbers.{liesIn, fitsI16}
-use Rattle.whole.specs.Signed.{P, N, signed, abs-is, add-is, diff-is, times-is}
+use Rattle.whole.specs.Signed.{signed, add-is, times-is}
 use Rattle.whole.specs.Truth.{left-of, right-of, three-of, four-of, five-of, six-of}
 use Rattle.whole.specs.Interval.{Within, i16-within}
 use Rattle.limits.specs.Limits.{same, isBlock, isFrameSide, isPel, areShifts, radiusOf}
 use Rattle.limits.specs.Refusals.{first}
-use Rattle.limits.specs.Refused.{first-passed, each-fails, neither-first, neither-second, let-through}
+use Rattle.limits.specs.Refused.{first-passed, each-fails, let-through}
 use Rattle.records.specs.declared.Pair.{Pair}
 use Rattle.records.specs.declared.Record.{Record}
 use Rattle.records.specs.Packing.{pairFits, pairsFit}
-use Rattle.window.specs.Windows.{isBad, sideOf, mostOf, windowWide, isWide}
+use Rattle.window.specs.Windows.{isBad, mostOf, isWide}
 use Rattle.plane.specs.declared.Place.{Place}
 use Rattle.plane.specs.Places.{limitsHold, keepsLength, Placed}
-use Rattle.choosing.specs.Choosing.{countOf}
 use Rattle.choosing.specs.Bounds.{Ranged, Narrow}
 use Rattle.best.specs.declared.Task.{Task}
 use Rattle.best.specs.Best.{choiceOf}
 use Rattle.best.specs.Fair.{Fair, Comparable}
+use Rattle.best.specs.Sides.{sides-most}
 use Rattle.record_slice.specs.RecordSlice.{recordAt, anyWide}
 use Rattle.planes.specs.Planes.{planesHold, holds3}
 use Rattle.planes.specs.Lying.{Lies, lying, three-lie}
@@ -50,43 +48,8 @@ parts p e =
       second = i16-within (p .second) (right-of (fitsI16 (p .first)) (fitsI16 (p .second)) e);
     }
 
--- a side that is not empty is as long as its count
-count-of-side : (p : Pair) → 0 < countOf (p .first) (p .second) → (pos 1 ≤ℤ sideOf p) × (P (sideOf p) ≡ countOf (p .first) (p .second) + N (sideOf p))
-unfolding countOf
-count-of-side p h = by (leZ (p .first) (p .second)) refl h
-  where
-    by : (t : Bool) → leZ (p .first) (p .second) ≡ t → 0 < cond t (natAbs (sideOf p)) 0 →
-        (pos 1 ≤ℤ sideOf p) × (P (sideOf p) ≡ cond t (natAbs (sideOf p)) 0 + N (sideOf p))
-    by true e l =
-        let d = diff-is (p .second) (p .first) in
-        let s = add-is (p .second -ℤ p .first) (pos 1) in
-        (omega (signed, d, s), omega (signed, d, s, abs-is (sideOf p)))
-    by false e l = absurd (omega arith)
-
--- neither side over the most
-narrow : (most : ℤ) (x y : Pair) → Within 0 7 most → windowWide most (sideOf x) (sideOf y) ≡ false →
-    0 < countOf (x .first) (x .second) → 0 < countOf (y .first) (y .second) → (countOf (x .first) (x .second) ≤ 7) × (countOf (y .first) (y .second) ≤ 7)
-narrow most x y w e a b =
-    let sx = count-of-side x a in
-    let sy = count-of-side y b in
-    let some-x = sx .0 in
-    let some-y = sy .0 in
-    let p : ltZ (pos 0) (sideOf x) ≡ true = omega signed in
-    let q : ltZ (pos 0) (sideOf y) ≡ true = omega signed in
-    let rest : (ltZ most (sideOf x) || ltZ most (sideOf y)) ≡ false = rw (p, q) at e in
-    let f = neither-first (ltZ most (sideOf x)) (ltZ most (sideOf y)) rest in
-    let g = neither-second (ltZ most (sideOf x)) (ltZ most (sideOf y)) rest in
-    let low = w .low in
-    let high = w .high in
-    (omega (signed, sx .1), omega (signed, sy .1))
-
 most-within : (radius : ℤ) → Within 0 3 radius → Within 0 7 (mostOf radius)
 most-within radius w = let low = w .low in let high = w .high in omega (signed, times-is radius 2, add-is (radius *ℤ pos 2) (pos 1))
-
-not-wide : (radius : ℤ) (r : Record) → isWide radius r ≡ false → isBad r ≡ true →
-    windowWide (mostOf radius) (sideOf (r .«window_x»)) (sideOf (r .«window_y»)) ≡ false
-unfolding isWide
-not-wide radius r e b = rw b at e
 
 -- the pairs of a record that was read fit 16 bits
 pub ranged : (task : Task) (r : Record) → pairsFit r ≡ true → Ranged (choiceOf task r)
@@ -99,7 +62,7 @@ ranged task r pairs =
 
 pub narrowed : (task : Task) (radius : ℤ) (r : Record) → Within 0 3 radius → isWide radius r ≡ false → isBad r ≡ true → Narrow (choiceOf task r)
 narrowed task radius r w e b =
-    let both = narrow (mostOf radius) (r .«window_x») (r .«window_y») (most-within radius w) (not-wide radius r e b) in
+    let both = sides-most 7 task radius r (most-within radius w) e b in
     record { across = λ h k. both h k .0; down = λ h k. both h k .1 }
 
 -- ---- the planes

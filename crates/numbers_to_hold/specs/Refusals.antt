@@ -115,7 +115,7 @@ refusals =
     ∷ gives (finish (pos 2) (pos 0) (pos 0) (pos 1) 8) 0
     ∷ gives (orderRefusal (pos 2) (pos 2) 8) 0
     ∷ gives (planNumber (planOf (file (pos 2)))) 0
-    ∷ gives (head (pos 2) 57) 0
+    ∷ gives (head (pos 2) 56) 0
     ∷ gives (line (pos 2) 0 131) 0
     -- "1: search not exhaustive, another block size, a grid side below 2, order length not the block count, or radius over 3"
     ∷ gives (plan (settings false (pos 0) (pos 8) (sides (pos 2) (pos 2)) (pos 1) (pos 0))) 1
@@ -166,11 +166,11 @@ refusals =
     -- "8: a plan file's trailer breaks its rules, or the file is under 32 .. bytes"
     ∷ gives (planNumber (planOf [])) 8
     ∷ gives (planNumber (planOf (replicate 32 0))) 8
-    -- "If several apply, the lowest is given; a file is asked for 8 first": of a file with a window of 9x1 a line of 1 byte is 5, and one that is long enough
-    -- is 7; a record that isn't there is 4
+    -- "If several apply, the lowest is given; a file is asked for 8 first": of a file with a window of 9x1 a line that is too short is 5, and one that is long
+    -- enough 7: the header has 56 bytes since 02, Three, in place of 49; a record that isn't there is 4
     ∷ gives (planNumber (planOf (file (pos 8)))) 7
-    ∷ gives (head (pos 8) 1) 5
-    ∷ gives (head (pos 8) 57) 7
+    ∷ gives (head (pos 8) 55) 5
+    ∷ gives (head (pos 8) 56) 7
     ∷ gives (line (pos 8) 1 1) 4
     ∷ gives (line (pos 8) 0 1) 5
     ∷ gives (line (pos 8) 0 131) 7

@@ -36,7 +36,7 @@ use Rattle.level_places.specs.Levels as places
 use Rattle.levels.specs.Refusals as levels
 use Rattle.planning.specs.Refusals as planning
 use Rattle.records.specs.Unpacking.{recordOf}
-use Rattle.window.specs.Windows.{isWide}
+use Rattle.window.specs.Windows.{isSearched, isKept, isWide}
 use Rattle.record_slice.specs.RecordSlice.{wordsFrom, recordAt}
 use Rattle.evaluation.specs.Refusals as evaluation
 use Rattle.finishing.specs.Finish.{finishAnswer}
@@ -51,6 +51,7 @@ use Rattle.numbers_to_hold.specs.Rows.{Row, is, Every, every-of}
 use Rattle.numbers_to_hold.specs.Refusals.{refusals}
 use Rattle.numbers_to_hold.specs.Levels.{ofLevels}
 use Rattle.numbers_to_hold.specs.Absences.{ofAbsences}
+use Rattle.numbers_to_hold.specs.Counts.{ofCounts}
 
 -- ---- answers as numbers: 01's number, and the values where it is 0
 abbrev pairAnswer : PackedPair → List ℤ
@@ -146,15 +147,15 @@ numbersToHold =
     ∷ is (subpelOf small (negsuc 0) (pos 0) ∷ []) (pos 31 ∷ [])
     ∷ []
 
--- ---- the theorem, of these, of the refusals that the paper states as numbers, and of 02's levels and absent samples
-pub all-hold : Every (numbersToHold ++ refusals ++ ofLevels ++ ofAbsences)
-unfolding numbersToHold refusals ofLevels ofAbsences packedPair packedRecord recordFits recordWords numbers walk each row sum sumZ hadamardAt tileSum
+-- ---- the theorem, of these, of the refusals that the paper states as numbers, and of 02's levels, absent samples and counts
+pub all-hold : Every (numbersToHold ++ refusals ++ ofLevels ++ ofAbsences ++ ofCounts)
+unfolding numbersToHold refusals ofLevels ofAbsences ofCounts packedPair packedRecord recordFits recordWords numbers walk each row sum sumZ hadamardAt tileSum
     diagonalAnswer diagonalOf rootOf scoreAnswer packedScore excessOf placeOf windowOf subpelOf planning.refusalOf planning.holds1 planning.holds2 holds3
     planning.axisHolds chromaHolds planesHold planning.vectorFits planning.entryHolds allFit turnAt blockAt slotsAt stepOf stepWith quietStep quietRecord
     badStep badRecord filledWith settledAt spotOf chromaPlace negativeOf axisOf shapeOf evaluation.refusalOf evaluation.holds1 evaluation.holds2
-    evaluation.referenceHolds evaluation.referencesHold anyUpto isWide recordAt recordOf wordsFrom finishAnswer positionRefusal blockRefusal orderRefusal
+    evaluation.referenceHolds evaluation.referencesHold anyUpto isWide isSearched isKept recordAt recordOf wordsFrom finishAnswer positionRefusal blockRefusal orderRefusal
     planOf isPlanFile trailerHolds trailerOf headOf tally wordsUpto headText lineText headAnswer lineAnswer decimal digits digitsBy wordAt bytesOf
     costNumber slotsAnswer levels.levelAnswer levels.refusalOf levels.holds2 levels.rawPitchesHold levels.pitchesHold levels.allHaveSides levels.hasSides
     levels.lengthsKept places.sizeAfter places.wholeRows places.finestRows places.levelRows places.reducedRows places.cutAt places.placeOf places.planesOf
     numberOf absentAt lumaAbsent planeAbsent chromaAbsent absentIn absence readAt vectorOffset
-all-hold = every-of (numbersToHold ++ refusals ++ ofLevels ++ ofAbsences) refl
+all-hold = every-of (numbersToHold ++ refusals ++ ofLevels ++ ofAbsences ++ ofCounts) refl

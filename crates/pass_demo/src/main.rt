@@ -246,24 +246,40 @@ fn read_from(given: Record) -> Offset {
     Offset::At(at)
 }
 
-fn show_story(given: Record) {
-    let pos = given.pos;
-    let average = given.average;
-    if window::is_negative(given) {
-        io::write_all(1, b"  half,");
-    } else {
-        io::write_all(1, b"  whole,");
-    }
-    if !window::is_bad(given) {
-        io::write_all(1, b" kept\n");
+// What became of a block, in the report's words, and `fine` for one that isn't bad.
+fn show_outcome(given: Record) {
+    if window::is_searched(given) {
+        io::write_all(1, b" searched");
         return;
     }
-    io::write_all(1, b" searched");
+    if window::is_kept(given) {
+        io::write_all(1, b" kept");
+        return;
+    }
+    io::write_all(1, b" fine");
+}
+
+// Of a bad block, whether its samples are those of its position.
+fn show_reads(given: Record) {
+    let pos = given.pos;
+    let average = given.average;
     if !lies_at(average, pos) {
         io::write_all(1, b", moved");
     }
     if !lies_at(read_from(given), pos) {
         io::write_all(1, b", stale");
+    }
+}
+
+fn show_story(given: Record) {
+    if window::is_negative(given) {
+        io::write_all(1, b"  half,");
+    } else {
+        io::write_all(1, b"  whole,");
+    }
+    show_outcome(given);
+    if window::is_bad(given) {
+        show_reads(given);
     }
     io::write_all(1, b"\n");
 }
@@ -344,11 +360,11 @@ fn explain_absent() {
     );
     io::write_all(
         1,
-        b"its data, -1 for a block that was not searched. At the right all is black (`_`):\n",
+        b"its data, -1 for a fine block. At the right all is black (`_`): 5,1 is searched,\n",
     );
     io::write_all(
         1,
-        b"5,1 is matched with black; 5,3 has SAD 0 too, and its match has no sample.\n",
+        b"and matched with black; 5,3 is kept, has SAD 0 too, and its match has no sample.\n",
     );
 }
 
@@ -359,24 +375,29 @@ fn explain() {
     );
     io::write_all(
         1,
-        b"8x8 (`whole`), on the rim 4x4 (`half`). A block with a high SAD is `searched`,\n",
+        b"8x8 (`whole`), on the rim 4x4 (`half`). A block with a low SAD is `fine`. Any\n",
     );
     io::write_all(
         1,
-        b"3 around its predictor; any other is `kept`. `moved`: the predictor and 2 more\n",
+        b"other is `searched`: the vectors up to 3 from its predictor that stay in the\n",
     );
     io::write_all(
         1,
-        b"reach the frame's edge, so samples are taken further in. `stale`: the searched\n",
+        b"frame are tried. Where there is none it is `kept`, with its predictor. `moved`:\n",
     );
     io::write_all(
         1,
-        b"block before was moved, and its samples are read, as in the Rust. `none`: no\n",
+        b"the predictor and 2 more reach the frame's edge, so samples are taken further\n",
     );
     io::write_all(
         1,
-        b"sample is there, which is not the number 0. Half blocks answer a tripled SAD.\n",
+        b"in. `stale`: the bad block before was moved, and its samples are read, as in the\n",
     );
+    io::write_all(
+        1,
+        b"Rust. `none`: no sample is there, which is not the number 0. Half blocks answer\n",
+    );
+    io::write_all(1, b"a tripled SAD.\n");
     explain_absent();
     io::write_all(1, b"\n");
 }

@@ -1,5 +1,6 @@
--- One record more, and that no more are counted than there are. Assumes nothing.
-use mathlib.Core.Path.{_≡_, refl}
+-- Counting, over any test: one record more, no more than there are, and two tests of which a third is made. So the records that are searched and those that
+-- are kept come to the BAD ones, of every slice of words. Assumes nothing.
+use mathlib.Core.Path.{_≡_, refl, sym}
 use mathlib.Core.Bool.{Bool, true, false, cond}
 use mathlib.Core.List.{List}
 use Prim.Native.Nat.{ℕ, zero, suc, _+_, _≤_}
@@ -7,6 +8,8 @@ use native.Mathlib.Numerals.{add-one}
 use native.Mathlib.Omega.{arith}
 use lib.IntN.{ℤ}
 use Rattle.records.specs.declared.Record.{Record}
+use Rattle.window.specs.Windows.{isBad, isSearched, isKept}
+use Rattle.window.specs.Outcomes.{counts-once}
 use Rattle.record_slice.specs.RecordSlice.{recordAt}
 use Rattle.plan_file.specs.PlanFile.{tally}
 
@@ -19,6 +22,11 @@ module _ (test : Record → Bool) (words : List ℤ) where
   unfolding tally
   one-more-counted n = rw add-one
 
+  -- as a loop counts: what was found so far, and the one that the next record adds
+  pub counted-next : (n : ℕ) {found one : ℕ} {given : Record} {passes : Bool} → found ≡ tally test words n →
+      given ≡ recordAt words n → passes ≡ test given → one ≡ cond passes 1 0 → found + one ≡ tally test words (n + 1)
+  counted-next n so-far read asked added = rw (so-far, added, asked, read) (sym (one-more-counted n))
+
   one-at-most : (t : Bool) → cond t 1 0 ≤ 1
   one-at-most true = omega arith
   one-at-most false = omega arith
@@ -27,3 +35,17 @@ module _ (test : Record → Bool) (words : List ℤ) where
   unfolding tally
   counted-most zero = omega arith
   counted-most (suc n) = omega (arith, counted-most n, one-at-most (test (recordAt words n)))
+
+-- ---- two tests of which a record passes one, and never both, where it passes a third
+module _ (a b all : Record → Bool) (once : (r : Record) → cond (a r) 1 0 + cond (b r) 1 0 ≡ cond (all r) 1 0) (words : List ℤ) where
+  pub counted-together : (n : ℕ) → tally a words n + tally b words n ≡ tally all words n
+  unfolding tally
+  counted-together zero = refl
+  counted-together (suc n) = omega (arith, counted-together n, once (recordAt words n))
+
+-- ---- 02, Three: the two counts add up to the BAD records
+pub both-are : (words : List ℤ) (n : ℕ) → tally isSearched words n + tally isKept words n ≡ tally isBad words n
+both-are = counted-together isSearched isKept isBad counts-once
+
+pub both-most : (words : List ℤ) (n : ℕ) → tally isSearched words n + tally isKept words n ≤ n
+both-most words n = omega (arith, both-are words n, counted-most isBad words n)

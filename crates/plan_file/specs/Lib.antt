@@ -1,5 +1,6 @@
 pub mod PlanFile
 pub mod Served
 pub mod Counting
+pub mod BadRecords
 pub mod Alike
 pub mod Examples

@@ -12,10 +12,11 @@ use Rattle.limits.specs.Limits.{same, isBlock, isPel}
 use Rattle.limits.specs.Sizes.{bytesPerRecord}
 use Rattle.little_endian.specs.Bytes.{wordAt, wordsUpto}
 use Rattle.records.specs.declared.Record.{Record}
-use Rattle.window.specs.Windows.{isBad, slotsOf}
+use Rattle.window.specs.Windows.{isSearched, isKept, slotsOf}
 use Rattle.record_slice.specs.RecordSlice.{recordAt, anyWide}
 use Rattle.plan_file.specs.declared.Trailer.{Trailer}
 use Rattle.plan_file.specs.declared.Head.{Head}
+use Rattle.plan_file.specs.declared.Counts.{Counts}
 use Rattle.plan_file.specs.declared.Plan.{Plan}
 use Rattle.plan_file.specs.declared.Plan.the-variants as plan
 
@@ -63,14 +64,21 @@ unfoldable pub tally : (Record → Bool) → List ℤ → ℕ → ℕ
 tally test words zero = 0
 tally test words (suc n) = tally test words n + cond (test (recordAt words n)) 1 0
 
--- ---- "First line: count, records with BAD set, block size, pel, slots"
+-- 02, Three: "From now on `searched` counts BAD records whose window holds at least one candidate, and the header gains `kept=` after it, for BAD records
+-- whose window is empty."
+abbrev pub countsOf : List ℤ → ℕ → Counts
+countsOf words count = record { searched = tally isSearched words count; kept = tally isKept words count }
+
+-- ---- "First line: count, records with BAD set, block size, pel, slots", where 02's two counts stand for the second
 unfoldable pub headOf : List ℕ → Head
 unfolding trailerOf
 headOf file =
     let t : Trailer = trailerOf file in
+    let counts : Counts = countsOf (wordsOf file) (natAbs (t .count)) in
     record {
       count = t .count;
-      searched = pos (tally isBad (wordsOf file) (natAbs (t .count)));
+      searched = pos (counts .searched);
+      kept = pos (counts .kept);
       width = t .width;
       height = t .height;
       pel = t .pel;

@@ -7,9 +7,8 @@ ghost use lib.IntN.{natAbs};
 ghost use lib.ListN.{length, take};
 ghost use Rattle.limits.specs.Limits.{same as sameNumber};
 ghost use Rattle.limits.specs.Sizes.{wordsPerRecord, bytesPerRecord};
-ghost use Rattle.window.specs.Windows.{isBad};
 ghost use Rattle.record_slice.specs.RecordSlice.{recordAt};
-ghost use Rattle.plan_file.specs.PlanFile.{wordsOf, trailerOf, lengthsHold, trailerHolds, isPlanFile, wideFile, tally, headOf, planOf};
+ghost use Rattle.plan_file.specs.PlanFile.{wordsOf, trailerOf, lengthsHold, trailerHolds, isPlanFile, wideFile, countsOf, headOf, planOf};
 
 const RECORD: i64 = limits::BYTES_PER_RECORD as i64;
 
@@ -27,10 +26,17 @@ pub struct Trailer {
 pub struct Head {
     pub count: i32,
     pub searched: i32,
+    pub kept: i32,
     pub width: i32,
     pub height: i32,
     pub pel: i32,
     pub slots: i32,
+}
+
+// Of a file's BAD records: how many windows hold a candidate, and how many are empty.
+struct Counts {
+    searched: usize,
+    kept: usize,
 }
 
 pub enum Plan {
@@ -101,17 +107,23 @@ pub fn is_plan_file(file: &[u8]) -> bool
     trailer_holds(trailer_of(file), file.len())
 }
 
-fn searched(words: &[i32], count: usize) -> usize
+fn counts_of(words: &[i32], count: usize) -> Counts
     requires { ⌜ wordsPerRecord * count ≤ length (now words) ⌝ }
-    ensures { λ r. ⌜ r ≡ tally isBad (now (words .entry)) count ⌝ }
+    ensures { λ r. ⌜ r ≡ countsOf (now (words .entry)) count ⌝ }
 {
-    let mut found: usize = 0;
+    let mut searched: usize = 0;
+    let mut kept: usize = 0;
     let mut number: usize = 0;
     while number < count {
-        found += whole::one_where(window::is_bad(record_slice::record_at(words, number)));
+        let given = record_slice::record_at(words, number);
+        searched += whole::one_where(window::is_searched(given));
+        kept += whole::one_where(window::is_kept(given));
         number += 1;
     }
-    found
+    Counts {
+        searched: searched,
+        kept: kept,
+    }
 }
 
 // ---- asked once 8 is not given
@@ -163,7 +175,9 @@ pub fn head_of(file: &[u8]) -> Head
 {
     let words = words_of(file);
     let n = file.len() / 4;
-    let found = searched(&words[..n], count_of(file)) as i32;
+    let counts = counts_of(&words[..n], count_of(file));
+    let searched = counts.searched as i32;
+    let kept = counts.kept as i32;
     let t = trailer_of(file);
     let count = t.count;
     let radius = t.radius;
@@ -172,7 +186,8 @@ pub fn head_of(file: &[u8]) -> Head
     let pel = t.pel;
     Head {
         count: count,
-        searched: found,
+        searched: searched,
+        kept: kept,
         width: width,
         height: height,
         pel: pel,

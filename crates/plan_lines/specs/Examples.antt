@@ -1,4 +1,4 @@
--- 01, "Plan file": what is printed of its listing, by computation.
+-- 01, "Plan file": what is printed of its listing, by computation, with the header that 02, Three, makes of it.
 use mathlib.Core.Path.{_≡_, refl}
 use Rattle.little_endian.specs.Bytes.{bytesOf, wordAt, wordsUpto}
 use Rattle.records.specs.Unpacking.{recordOf}
@@ -8,7 +8,7 @@ use Rattle.plan_file.specs.Examples.{listed, listedHead}
 use Rattle.plan_lines.specs.Report.{headText, lineText, lineOf}
 
 -- "it prints"
-pub listing-head : headText listedHead ≡ codes "plan blocks=1 searched=0 size=8x8 pel=2 slots=10\n"
+pub listing-head : headText listedHead ≡ codes "plan blocks=1 searched=0 kept=0 size=8x8 pel=2 slots=10\n"
 unfolding headText decimal digits digitsBy
 listing-head = refl
 

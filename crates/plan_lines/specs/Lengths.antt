@@ -1,9 +1,10 @@
--- How long the report's lines can be, with their newlines: the first has at most 57 bytes, a record's at most 131. So a lent line of that length is never
+-- How long the report's lines can be, with their newlines: the first has at most 66 bytes, a record's at most 131. So a lent line of that length is never
 -- refused with 5. Assumes nothing.
 use mathlib.Core.Path.{_≡_, refl}
 use mathlib.Core.Bool.{Bool, true, false}
 use mathlib.Core.List.{List, _++_}
 use Prim.Native.Nat.{ℕ, suc, _+_, _*_, _/_, _^_, _≤_, _<_}
+use mathlib.Core.Logic.{⊎-elim}
 use native.Mathlib.Nat.{div-add-mod'}
 use native.Mathlib.Omega.{arith}
 use borrow.Author.Tests.{lt-ltb, le-ltb}
@@ -14,7 +15,7 @@ use lib.Signed.{ltZ, shrZ, nonNeg}
 use mir.Syntax.{w16, w32}
 use mir.Val.{SFits}
 use Rattle.whole.specs.Numbers.{modZ, liesIn}
-use Rattle.whole.specs.Signed.{range, abs-is, nonneg-of}
+use Rattle.whole.specs.Signed.{range, abs-is, nonneg-of, lt-or-ge}
 use Rattle.whole.specs.Interval.{Within}
 use Rattle.limits.specs.Ranges.{pel-within, at-each-radius, block-within}
 use Rattle.whole.specs.Floor.{mod-below, floor-low, floor-high}
@@ -26,11 +27,11 @@ use Rattle.records.specs.Unpacking.{offsetOf, pairOf, recordOf}
 use Rattle.report_text.specs.Text.{codes, decimal}
 use Rattle.report_text.specs.Digits.{digits-length, decimal-length}
 use Rattle.report_text.specs.declared.Written.the-variants as written
-use Rattle.window.specs.Windows.{badFlag, halfFlag, isBad, slotsOf}
+use Rattle.window.specs.Windows.{badFlag, halfFlag, isSearched, isKept, slotsOf}
 use Rattle.record_slice.specs.RecordSlice.{wordsFrom, recordAt}
 use Rattle.plan_file.specs.PlanFile.{wordsOf, trailerOf, isPlanFile, wideFile, tally, headOf}
 use Rattle.plan_file.specs.Served.{served}
-use Rattle.plan_file.specs.Counting.{counted-most}
+use Rattle.plan_file.specs.Counting.{both-most}
 use Rattle.plan_lines.specs.Report.{field, pairText, offsetText, headText, lineText, lineOf, headAnswer, lineAnswer}
 
 -- so many digits, and one byte for a sign
@@ -115,24 +116,33 @@ slots-most radius e =
     at-each-radius (λ (z : ℤ). length (decimal (slotsOf z)) ≤ 2)
     (natural-most 1 2 (lit< tt)) (natural-most 1 10 (lit< tt)) (natural-most 1 26 (lit< tt)) (natural-most 1 50 (lit< tt)) radius e
 
-sum-of-seven : (a b c d e f g : List ℕ) →
-    length (a ++ b ++ c ++ d ++ e ++ f ++ g) ≡ length a + length b + length c + length d + length e + length f + length g
-sum-of-seven a b c d e f g = simp length-append
+-- two counts that together are below 2,000 don't both have four digits
+two-most : (a b : ℕ) → a + b < 2000 → length (decimal (pos a)) + length (decimal (pos b)) ≤ 7
+two-most a b few =
+    ⊎-elim
+    (λ (l : a < 1000). omega (arith, natural-most 2 a (omega arith), natural-most 3 b (omega arith)))
+    (λ (l : 1000 ≤ a). omega (arith, natural-most 3 a (omega arith), natural-most 2 b (omega arith)))
+    (lt-or-ge a 1000)
 
-pub head-most : (file : List ℕ) → isPlanFile file ≡ true → length (headText (headOf file)) ≤ 57
+sum-of-eight : (a b c d e f g h : List ℕ) →
+    length (a ++ b ++ c ++ d ++ e ++ f ++ g ++ h) ≡ length a + length b + length c + length d + length e + length f + length g + length h
+sum-of-eight a b c d e f g h = simp length-append
+
+pub head-most : (file : List ℕ) → isPlanFile file ≡ true → length (headText (headOf file)) ≤ 66
 unfolding headText headOf
 head-most file holds =
     let t = trailerOf file in
     let k = served file holds in
     let n = natAbs (t .count) in
-    let searched = tally isBad (wordsOf file) n in
+    let searched = tally isSearched (wordsOf file) n in
+    let kept = tally isKept (wordsOf file) n in
     let size = block-within (t .width) (t .height) (k .block-in) in
     omega (
       arith,
-      sum-of-seven (field "plan blocks=" (t .count)) (field " searched=" (pos searched)) (field " size=" (t .width)) (field "x" (t .height))
-          (field " pel=" (t .pel)) (field " slots=" (slotsOf (t .radius))) (codes "\n"),
+      sum-of-eight (field "plan blocks=" (t .count)) (field " searched=" (pos searched)) (field " kept=" (pos kept)) (field " size=" (t .width))
+          (field "x" (t .height)) (field " pel=" (t .pel)) (field " slots=" (slotsOf (t .radius))) (codes "\n"),
       small-most 3 (t .count) (k .natural) (omega (arith, k .counted, k .most)),
-      natural-most 3 searched (omega (arith, counted-most isBad (wordsOf file) n, k .counted, k .most)),
+      two-most searched kept (omega (arith, both-most (wordsOf file) n, k .counted, k .most)),
       within-most 1 (size .0) (lit< tt),
       within-most 1 (size .1) (lit< tt),
       within-most 0 (pel-within (t .pel) (k .pel-in)) (lit< tt),
@@ -141,7 +151,7 @@ head-most file holds =
 
 -- ---- so a line of that length always gets its text
 module _ (file : List ℕ) (holds : isPlanFile file ≡ true) (narrow : wideFile file ≡ false) (room : ℕ) where
-  pub head-fits : 57 ≤ room → headAnswer file room ≡ written.Length (length (headText (headOf file)))
+  pub head-fits : 66 ≤ room → headAnswer file room ≡ written.Length (length (headText (headOf file)))
   unfolding headAnswer
   head-fits enough =
       let fits : ltb room (length (headText (headOf file))) ≡ false = le-ltb room (length (headText (headOf file))) (omega (arith, head-most file holds)) in

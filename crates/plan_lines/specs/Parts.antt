@@ -1,10 +1,12 @@
 -- The two lines in the parts in which the code puts them, and that these are the lines. Assumes nothing.
-use mathlib.Core.Path.{_≡_}
+use mathlib.Core.Path.{_≡_, sym, subst}
 use mathlib.Core.List.{List, _++_, append-assoc}
 use Prim.Native.Nat.{ℕ}
 use lib.IntN.{ℤ}
 use Rattle.records.specs.declared.Record.{Record}
 use Rattle.report_text.specs.Text.{codes, decimal}
+use Rattle.report_text.specs.Putting.{Puts}
+use Rattle.report_text.specs.PuttingLaws.{both-put}
 use Rattle.plan_file.specs.declared.Head.{Head}
 use Rattle.window.specs.Windows.{badFlag, halfFlag}
 use Rattle.plan_lines.specs.Report.{field, pairText, offsetText, headText, lineText}
@@ -30,18 +32,21 @@ line-parts number r =
     (codes " predictor=" ++ pairText (r .predictor)) (field " sad=" (r .sad)) (codes " average=" ++ offsetText (r .average))
     (codes " window=" ++ pairText (r .«window_x»)) (codes "," ++ pairText (r .«window_y»)) (codes "\n")
 
-regroup-head : (a b c d e f g : List ℕ) → a ++ b ++ c ++ d ++ e ++ f ++ g ≡ a ++ b ++ (c ++ d) ++ (e ++ f) ++ g
-regroup-head a b c d e f g = simp append-assoc
+regroup-head : (a b c d e f g h : List ℕ) → a ++ b ++ c ++ d ++ e ++ f ++ g ++ h ≡ a ++ (b ++ c) ++ (d ++ e) ++ (f ++ g) ++ h
+regroup-head a b c d e f g h = simp append-assoc
 
-abbrev pub headPairs : Head → List ℕ
-headPairs head =
-    field "plan blocks=" (head .count) ++ field " searched=" (head .searched)
-    ++ (field " size=" (head .width) ++ field "x" (head .height))
-    ++ (field " pel=" (head .pel) ++ field " slots=" (head .slots))
-    ++ codes "\n"
-
-pub head-parts : (head : Head) → headText head ≡ headPairs head
+-- the first line, put part by part, of numbers that are the head's
+pub head-put : (head : Head) {l₀ l₁ l₂ l₃ l₄ l₅ : List ℕ} {a b c d e : ℕ} {count searched kept width height pel slots : ℤ} →
+    Puts l₀ 0 (field "plan blocks=" count) l₁ a →
+    Puts l₁ a (field " searched=" searched ++ field " kept=" kept) l₂ b →
+    Puts l₂ b (field " size=" width ++ field "x" height) l₃ c →
+    Puts l₃ c (field " pel=" pel ++ field " slots=" slots) l₄ d →
+    Puts l₄ d (codes "\n") l₅ e →
+    count ≡ head .count → searched ≡ head .searched → kept ≡ head .kept → width ≡ head .width → height ≡ head .height → pel ≡ head .pel →
+    slots ≡ head .slots → Puts l₀ 0 (headText head) l₅ e
 unfolding headText
-head-parts head =
-    regroup-head (field "plan blocks=" (head .count)) (field " searched=" (head .searched)) (field " size=" (head .width)) (field "x" (head .height))
-    (field " pel=" (head .pel)) (field " slots=" (head .slots)) (codes "\n")
+head-put head {l₀} {l₅ = l₅} {e = e} {count} {searched} {kept} {width} {height} {pel} {slots} blocks bad size rest end p₀ p₁ p₂ p₃ p₄ p₅ p₆ =
+    let joined = regroup-head (field "plan blocks=" count) (field " searched=" searched) (field " kept=" kept) (field " size=" width) (field "x" height)
+    (field " pel=" pel) (field " slots=" slots) (codes "\n") in
+    rw (sym p₀, sym p₁, sym p₂, sym p₃, sym p₄, sym p₅, sym p₆)
+    (subst (λ (text : List ℕ). Puts l₀ 0 text l₅ e) (sym joined) (both-put (both-put (both-put (both-put blocks bad) size) rest) end))

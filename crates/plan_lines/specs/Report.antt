@@ -1,9 +1,9 @@
--- The report's text. 01, "Plan file": the program prints
+-- The report's text. 01, "Plan file", with the header of 02, Three: the program prints
 --
---   plan blocks=1 searched=0 size=8x8 pel=2 slots=10
+--   plan blocks=1 searched=0 kept=0 size=8x8 pel=2 slots=10
 --   0 bad=0 half=0 lambda=0 predictor=3,-4 sad=10 average=none window=0,-1,0,-1
 --
--- "First line: count, records with BAD set, block size, pel, slots. Then each record's number, its two flags, lambda, predictor, SAD, average offset or `none`,
+-- "First line: count, records with BAD set, block size, pel, slots", and of the second 02: "the header gains `kept=` after it". "Then each record's number, its two flags, lambda, predictor, SAD, average offset or `none`,
 -- and x least, x greatest, y least, y greatest." Definitions alone.
 use mathlib.Core.Bool.{Bool, not}
 use mathlib.Core.List.{List, _++_}
@@ -40,6 +40,7 @@ unfoldable pub headText : Head → List ℕ
 headText head =
     field "plan blocks=" (head .count)
     ++ field " searched=" (head .searched)
+    ++ field " kept=" (head .kept)
     ++ field " size=" (head .width)
     ++ field "x" (head .height)
     ++ field " pel=" (head .pel)

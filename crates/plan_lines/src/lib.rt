@@ -42,12 +42,14 @@ fn head_text(head: Head, text: &mut [u8]) -> usize
 {
     let count = head.count;
     let searched = head.searched;
+    let kept = head.kept;
     let width = head.width;
     let height = head.height;
     let pel = head.pel;
     let slots = head.slots;
-    let blocks = report_text::put_two(text, 0, b"plan blocks=", count, b" searched=", searched);
-    let size = report_text::put_two(text, blocks, b" size=", width, b"x", height);
+    let blocks = report_text::put_field(text, 0, b"plan blocks=", count);
+    let bad = report_text::put_two(text, blocks, b" searched=", searched, b" kept=", kept);
+    let size = report_text::put_two(text, bad, b" size=", width, b"x", height);
     let rest = report_text::put_two(text, size, b" pel=", pel, b" slots=", slots);
     report_text::put(text, rest, b"\n")
 }

@@ -15,10 +15,10 @@ fn refused(number: u32) {
     io::write_all(1, b"\n");
 }
 
-// A first line has at most 57 bytes, so that it is never too long for this one.
+// A first line has at most 66 bytes, so that it is never too long for this one.
 fn head_bytes(file: &[u8], line: &mut [u8]) -> usize
-    requires { ⌜ Accepted (now file) × (57 ≤ length (now line)) ⌝ }
-    ensures { λ r. ⌜ (r ≡ headLength (now (file .entry))) × (r ≤ 57) ⌝ }
+    requires { ⌜ Accepted (now file) × (66 ≤ length (now line)) ⌝ }
+    ensures { λ r. ⌜ (r ≡ headLength (now (file .entry))) × (r ≤ 66) ⌝ }
 {
     let answer = plan_lines::report_head(file, line);
     let Written::Length(bytes) = answer else {
@@ -30,7 +30,7 @@ fn head_bytes(file: &[u8], line: &mut [u8]) -> usize
 fn print_head(file: &[u8])
     requires { ⌜ Accepted (now file) ⌝ }
 {
-    let mut line = [0u8; 57];
+    let mut line = [0u8; 66];
     let bytes = head_bytes(file, &mut line);
     io::write_all(1, &line[..bytes]);
 }

@@ -4,3 +4,4 @@ pub mod Evaluates
 pub mod Done
 pub mod Finishes
 pub mod ThreeCalls
+pub mod Searched

@@ -1,11 +1,11 @@
-// What a record says of its search: its two flags, how wide its window is, and how many slots a radius has.
+// What a record says of its search: its two flags, whether its window holds a candidate, how wide it is, and how many slots a radius has.
 use records::Pair;
 use records::Record;
 ghost use mathlib.Core.Path.{_≡_};
 ghost use mathlib.Core.Bool.{true};
 ghost use lib.IntN.{pos};
 ghost use Rattle.whole.specs.Numbers.{liesIn};
-ghost use Rattle.window.specs.Windows.{badFlag, halfFlag, isBad, isNegative, sideOf, windowWide, isWide, slotsOf};
+ghost use Rattle.window.specs.Windows.{badFlag, halfFlag, isBad, isNegative, sideOf, bothSome, hasCandidate, isSearched, isKept, windowWide, isWide, slotsOf};
 
 pub fn bad_flag(flags: i32) -> i32
     ensures { λ r. ⌜ r ≡ badFlag flags ⌝ }
@@ -42,10 +42,37 @@ fn side_of(window: Pair) -> i64
     greatest as i64 - least as i64 + 1
 }
 
+// Each side is asked: two sides below 0 have a product above it.
+fn both_some(x: i64, y: i64) -> bool
+    ensures { λ r. ⌜ r ≡ bothSome x y ⌝ }
+{
+    (0 < x) & (0 < y)
+}
+
+fn has_candidate(given: Record) -> bool
+    ensures { λ r. ⌜ r ≡ hasCandidate given ⌝ }
+{
+    let window_x = given.window_x;
+    let window_y = given.window_y;
+    both_some(side_of(window_x), side_of(window_y))
+}
+
+pub fn is_searched(given: Record) -> bool
+    ensures { λ r. ⌜ r ≡ isSearched given ⌝ }
+{
+    is_bad(given) & has_candidate(given)
+}
+
+pub fn is_kept(given: Record) -> bool
+    ensures { λ r. ⌜ r ≡ isKept given ⌝ }
+{
+    is_bad(given) & !has_candidate(given)
+}
+
 fn window_wide(most: i64, x: i64, y: i64) -> bool
     ensures { λ r. ⌜ r ≡ windowWide most x y ⌝ }
 {
-    (0 < x) & (0 < y) & ((most < x) | (most < y))
+    both_some(x, y) & ((most < x) | (most < y))
 }
 
 pub fn is_wide(given: Record, radius: i32) -> bool

@@ -1,3 +1,4 @@
 pub mod Counted
 pub mod RealMatch
+pub mod Kept
 pub mod Knowing

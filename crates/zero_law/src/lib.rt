@@ -1,6 +1,6 @@
-// Evaluating, with the third demand's last sentence in the contract, and what the fifth number says. A
-// lent slice holds bytes whatever it holds, so that the caller is asked for nothing: the laws are about
-// the buffer that he gets back.
+// Evaluating, with the third demand's last sentence in the contract, what the fifth number says, and
+// what a record has that the report counts as kept. A lent slice holds bytes whatever it holds, so that
+// the caller is asked for nothing: the laws are about the buffer that he gets back.
 use evaluation::Request;
 ghost use mathlib.Core.Path.{_≡_};
 ghost use lib.ListN.{length};

@@ -1,4 +1,4 @@
--- A line of 57 bytes is never too short for the first line. Assumes nothing.
+-- A line of 66 bytes is never too short for the first line. Assumes nothing.
 use borrow.Author.Needs.{needs}
 use mathlib.Core.Path.{_≡_, _∙_}
 use Rattle.report_text.specs.declared.Written.the-variants as written

@@ -8,6 +8,7 @@ use Rattle.evaluation.specs.Evaluated.{evaluateBests}
 use Rattle.evaluation.specs.Zero.{zero-law}
 use Rattle.zero_law.specs.Counted.{count-law}
 use Rattle.zero_law.specs.RealMatch.{real-law}
+use Rattle.zero_law.specs.Kept.{kept-law}
 use Rattle.zero_law.specs.Knowing.{Known}
 use Rattle.zero_law.proofs.evaluate_knowing.Statement.{statement}
 use Rattle.zero_law.proofs.evaluate_knowing.Tie as tie
@@ -30,6 +31,7 @@ returns c =
       zero = zero;
       counts = counts;
       real = real-law q (s .records .now) (s .luma .now) (s .u .now) (s .v .now) (s .reference-luma .now) (s .reference-u .now) (s .reference-v .now) made zero counts;
+      kept = kept-law q (s .records .now) (s .luma .now) (s .u .now) (s .v .now) (s .reference-luma .now) (s .reference-u .now) (s .reference-v .now) (s .bests .now) (sym answer ∙ done);
     } in
     (answer, (left, λ done. subst Law (sym left) (law done)))
 
