@@ -1,5 +1,5 @@
 -- After a plan that is done, evaluating its records is done: the request is made of the plan's own settings, the reference planes pass 2's and 3's tests, and
--- there is room for four numbers a block. Nothing else is asked. Assumes nothing.
+-- there is room for five numbers a block. Nothing else is asked. Assumes nothing.
 use mathlib.Core.Path.{_≡_, refl}
 use mathlib.Core.Bool.{Bool, true, _&&_}
 use mathlib.Core.List.{List}

@@ -69,7 +69,7 @@ module _ (s : Settings) (measure : Bool) (pnew : ℤ) (reference : Planes) (orde
   pub indices-tail : drop n named ≡ drop n indices
   indices-tail = ap (drop n) named-is ∙ drop-at (indicesUpto s order vectors n) _ n (indices-long s order vectors n)
 
-  -- ---- evaluating the words is done, and leaves four numbers a block, and then the tail
+  -- ---- evaluating the words is done, and leaves five numbers a block, and then the tail
   pub evaluated : evaluateAnswer q (take (wordsPerRecord * n) written) luma u v referenceLuma referenceU referenceV (length bests) ≡ 0
   evaluated =
       rw records-are
