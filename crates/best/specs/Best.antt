@@ -21,7 +21,7 @@ use Rattle.tables.specs.Tables.{vectorOffset, vectorCost, tableOf, joined}
 use Rattle.best.specs.declared.Task.{Task}
 use Rattle.best.specs.declared.Best.{Best}
 
--- a side of the block searched: of a negative block "sides halve"
+-- a side of the block that is compared: of a negative block "sides halve"
 abbrev pub searchedOf : Bool → ℤ → ℕ
 searchedOf negative side = natAbs (cond negative (shrZ side 2) side)
 
@@ -52,7 +52,7 @@ module _ (task : Task) (given : Record) where
       }
 
   -- ---- luma. "Source sample b comes from overlay while overlay is present and b is under a quarter of the full block": sample (y, x) of the
-  -- block searched is b = y x width + x, and the sides of the full block are the task's, whatever the flag
+  -- block compared is b = y x width + x, and the sides of the full block are the task's, whatever the flag
   abbrev pub sourceBlock : List ℕ → Block
   sourceBlock luma y x =
       sourceAt luma (natAbs (task .source .luma .pitch)) (given .full) (given .overlay) (natAbs (task .block .x)) (natAbs (task .block .y)) (y * widthOf + x)
@@ -109,7 +109,7 @@ module _ (task : Task) (given : Record) where
   unfoldable pub chromasOf : List ℕ → List ℕ → List ℕ → List ℕ → List ℕ
   chromasOf u v referenceU referenceV = cond (isNegative given) noTable (chromaTable u v referenceU referenceV)
 
-  -- ---- "The average is the sum shifted by log2 of the area", over the sides searched, whether the block is bad or not
+  -- ---- "The average is the sum shifted by log2 of the area", over the sides compared, whether the block is bad or not
   abbrev pub averageAt : List ℕ → ℤ
   averageAt luma = pos (averageOf luma (natAbs (task .source .luma .pitch)) (given .average) widthOf heightOf)
 

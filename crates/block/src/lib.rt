@@ -1,4 +1,4 @@
-// One block's plan: its shape, whether it is searched, which slot its samples come from, its record.
+// One block's plan: its shape, whether it is bad, which slot its samples come from, its record.
 use axis::Axis;
 use plane::Place;
 use planes::Planes;

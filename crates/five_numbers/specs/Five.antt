@@ -26,7 +26,7 @@ numberOf (Counted absent) = absent
 numberOf NotCompared = negsuc 0
 
 module _ (task : Task) (given : Record) where
-  -- ---- luma at a vector: over the sides searched, from the offset that its cost is taken from
+  -- ---- luma at a vector: over the sides compared, from the offset that its cost is taken from
   unfoldable pub lumaAbsent : List ℕ → ℤ → ℤ → ℕ
   lumaAbsent referenceLuma x y =
       placeAbsent referenceLuma (task .reference .luma) (vectorOffset (lumaReference task given) x y) (widthOf task given) (heightOf task given)

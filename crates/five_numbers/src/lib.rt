@@ -22,7 +22,7 @@ pub struct Five {
     pub outside: Absences,
 }
 
-// Luma, over the sides that are searched.
+// Luma, over the sides that are compared.
 fn luma_absent(task: Task, given: Record, x: i32, y: i32, reference_luma: &[u8]) -> u32
     requires { ⌜ Fair task given × Aimed x y ⌝ }
     ensures { λ r. ⌜ r ≡ lumaAbsent task given (now («reference_luma» .entry)) x y ⌝ }

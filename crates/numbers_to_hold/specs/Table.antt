@@ -149,13 +149,13 @@ numbersToHold =
 
 -- ---- the theorem, of these, of the refusals that the paper states as numbers, and of 02's levels, absent samples and counts
 pub all-hold : Every (numbersToHold ++ refusals ++ ofLevels ++ ofAbsences ++ ofCounts)
-unfolding numbersToHold refusals ofLevels ofAbsences ofCounts packedPair packedRecord recordFits recordWords numbers walk each row sum sumZ hadamardAt tileSum
-    diagonalAnswer diagonalOf rootOf scoreAnswer packedScore excessOf placeOf windowOf subpelOf planning.refusalOf planning.holds1 planning.holds2 holds3
-    planning.axisHolds chromaHolds planesHold planning.vectorFits planning.entryHolds allFit turnAt blockAt slotsAt stepOf stepWith quietStep quietRecord
-    badStep badRecord filledWith settledAt spotOf chromaPlace negativeOf axisOf shapeOf evaluation.refusalOf evaluation.holds1 evaluation.holds2
-    evaluation.referenceHolds evaluation.referencesHold anyUpto isWide isSearched isKept recordAt recordOf wordsFrom finishAnswer positionRefusal blockRefusal orderRefusal
-    planOf isPlanFile trailerHolds trailerOf headOf tally wordsUpto headText lineText headAnswer lineAnswer decimal digits digitsBy wordAt bytesOf
-    costNumber slotsAnswer levels.levelAnswer levels.refusalOf levels.holds2 levels.rawPitchesHold levels.pitchesHold levels.allHaveSides levels.hasSides
-    levels.lengthsKept places.sizeAfter places.wholeRows places.finestRows places.levelRows places.reducedRows places.cutAt places.placeOf places.planesOf
-    numberOf absentAt lumaAbsent planeAbsent chromaAbsent absentIn absence readAt vectorOffset
+unfolding numbersToHold refusals ofLevels ofAbsences ofCounts packedPair packedRecord recordFits recordWords numbers walk each row sum sumZ hadamardAt
+    tileSum diagonalAnswer diagonalOf rootOf scoreAnswer packedScore excessOf placeOf windowOf subpelOf planning.refusalOf planning.holds1 planning.holds2
+    holds3 planning.axisHolds chromaHolds planesHold planning.vectorFits planning.entryHolds allFit turnAt blockAt slotsAt stepOf stepWith quietStep
+    quietRecord badStep badRecord filledWith settledAt spotOf chromaPlace negativeOf axisOf shapeOf evaluation.refusalOf evaluation.holds1 evaluation.holds2
+    evaluation.referenceHolds evaluation.referencesHold anyUpto isWide isSearched isKept recordAt recordOf wordsFrom finishAnswer positionRefusal
+    blockRefusal orderRefusal planOf isPlanFile trailerHolds trailerOf headOf tally wordsUpto headText lineText headAnswer lineAnswer decimal digits
+    digitsBy wordAt bytesOf costNumber slotsAnswer levels.levelAnswer levels.refusalOf levels.holds2 levels.rawPitchesHold levels.pitchesHold
+    levels.allHaveSides levels.hasSides levels.lengthsKept places.sizeAfter places.wholeRows places.finestRows places.levelRows places.reducedRows
+    places.cutAt places.placeOf places.planesOf numberOf absentAt lumaAbsent planeAbsent chromaAbsent absentIn absence readAt vectorOffset
 all-hold = every-of (numbersToHold ++ refusals ++ ofLevels ++ ofAbsences ++ ofCounts) refl

@@ -1,5 +1,5 @@
--- Counting, over any test: one record more, no more than there are, and two tests of which a third is made. So the records that are searched and those that
--- are kept come to the BAD ones, of every slice of words. Assumes nothing.
+-- Counting, over any test: one record more, no more than there are, and that two counts come to a third where each record passes the third test exactly if it
+-- passes one of the two, and never both. So the records that are searched and those that are kept come to the BAD ones. Assumes nothing.
 use mathlib.Core.Path.{_≡_, refl, sym}
 use mathlib.Core.Bool.{Bool, true, false, cond}
 use mathlib.Core.List.{List}
@@ -36,7 +36,7 @@ module _ (test : Record → Bool) (words : List ℤ) where
   counted-most zero = omega arith
   counted-most (suc n) = omega (arith, counted-most n, one-at-most (test (recordAt words n)))
 
--- ---- two tests of which a record passes one, and never both, where it passes a third
+-- ---- two tests, and a third: each record counts once in the third where it counts once in one of the two
 module _ (a b all : Record → Bool) (once : (r : Record) → cond (a r) 1 0 + cond (b r) 1 0 ≡ cond (all r) 1 0) (words : List ℤ) where
   pub counted-together : (n : ℕ) → tally a words n + tally b words n ≡ tally all words n
   unfolding tally

@@ -3,8 +3,9 @@
 --   plan blocks=1 searched=0 kept=0 size=8x8 pel=2 slots=10
 --   0 bad=0 half=0 lambda=0 predictor=3,-4 sad=10 average=none window=0,-1,0,-1
 --
--- "First line: count, records with BAD set, block size, pel, slots", and of the second 02: "the header gains `kept=` after it". "Then each record's number, its two flags, lambda, predictor, SAD, average offset or `none`,
--- and x least, x greatest, y least, y greatest." Definitions alone.
+-- "First line: count, records with BAD set, block size, pel, slots": for the second there are two counts, and "the header gains `kept=` after" `searched`.
+-- "Then each record's number, its two flags, lambda, predictor, SAD, average offset or `none`, and x least, x greatest, y least, y greatest." Definitions
+-- alone.
 use mathlib.Core.Bool.{Bool, not}
 use mathlib.Core.List.{List, _++_}
 use Prim.Native.Nat.{ℕ, zero, suc}

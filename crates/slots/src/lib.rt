@@ -1,4 +1,4 @@
-// The two source slots: where the samples of a block searched lie, handed from one block to the next.
+// The two source slots: where the samples of a bad block lie, handed from one block to the next.
 // Nothing here clears a slot. What an earlier block left is what a later one reads.
 use records::Offset;
 ghost use mathlib.Core.Path.{_≡_};

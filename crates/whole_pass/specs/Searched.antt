@@ -1,7 +1,7 @@
 -- 02, Three, of the lent buffer: after a plan that is done, the window of every record in it that the report counts as `searched` really has a candidate in
 -- the table, and all its candidates stand there, in slots that the header counts, whatever it is evaluated against. What a candidate in the table is, is
 -- best's `InTable`. Assumes nothing.
-use mathlib.Core.Path.{_≡_, sym, ap, subst, _∙_}
+use mathlib.Core.Path.{_≡_, ap, _∙_}
 use mathlib.Core.Bool.{true, false}
 use mathlib.Core.List.{List, _++_}
 use Prim.Native.Nat.{ℕ, _*_, _<_}
@@ -15,7 +15,6 @@ use Rattle.limits.specs.Sizes.{wordsPerRecord}
 use Rattle.limits.specs.Limits.{radiusOf}
 use Rattle.limits.specs.Ranges.{radius-within}
 use Rattle.limits.specs.Refused.{kept-done}
-use Rattle.records.specs.declared.Record.{Record}
 use Rattle.window.specs.Windows.{isSearched, isWide, slotsOf}
 use Rattle.record_slice.specs.RecordSlice.{recordAt}
 use Rattle.best.specs.declared.Task.{Task}

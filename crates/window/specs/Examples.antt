@@ -29,7 +29,7 @@ withWindow flags left right top bottom =
 abbrev Said : Record → Bool → Bool → Type 0
 Said r searched kept = (isSearched r ≡ searched) × (isKept r ≡ kept)
 
--- radius 0: 1 by 1, the predictor's own place, is a candidate
+-- 1 by 1, as at radius 0, is one candidate
 pub one-by-one : Said (withWindow (pos 1) (pos 5) (pos 5) (pos 7) (pos 7)) true false
 unfolding isSearched isKept
 one-by-one = (refl, refl)

@@ -1,5 +1,5 @@
--- 02, Three, of the lent buffer. After an accepted evaluation a BAD record whose window is empty, which the report counts as `kept`, has its own predictor in the
--- buffer, and the cost of the predictor: the plain one, tripled where the record is negative. Assumes nothing.
+-- 02, Three, of the lent buffer. After an accepted evaluation a BAD record whose window is empty, which the report counts as `kept`, has its own predictor
+-- in the buffer, and the cost of the predictor: the plain one, tripled where the record is negative. Assumes nothing.
 use mathlib.Core.Path.{_≡_, ap, _∙_}
 use mathlib.Core.Bool.{true}
 use mathlib.Core.List.{List}
