@@ -32,7 +32,7 @@ slot-below : (p c j i : ℕ) → c ≤ suc p → j ≤ p → i < c → 1 + j * c
 slot-below p c j i narrow low l =
     let t = mul-le-mul {n₁ = j} {m₁ = c} {n₂ = p} {m₂ = suc p} low narrow in omega arith
 
--- ---- at each radius: a window's most, and the slots that the header says
+-- ---- at each radius: a window's most is p + 1, p being 2 x radius, and the header's slots are its square and 1
 record Fits (radius : ℤ) : Type 0 where
   p : ℕ
   few : suc p ≤ 7

@@ -1,12 +1,13 @@
--- 02, Three, of the lent buffer: after a plan that is done, the window of every record in it that the report counts as `searched` really has a candidate in
--- the table, and all its candidates stand there, in slots that the header counts, whatever it is evaluated against. What a candidate in the table is, is
--- best's `InTable`. Assumes nothing.
+-- 02, Three: after a plan that is done, every record of which the report says `searched` really has a candidate in the table, and all its candidates stand
+-- there, in slots that the header counts, whatever it is evaluated against. It is said of the lent buffer, and of a plan file in which the plan's words stand.
+-- What a candidate in the table is, is best's `InTable`. Assumes nothing.
 use mathlib.Core.Path.{_≡_, ap, _∙_}
 use mathlib.Core.Bool.{true, false}
 use mathlib.Core.List.{List, _++_}
 use Prim.Native.Nat.{ℕ, _*_, _<_}
 use lib.IntN.{ℤ, pos}
-use lib.ListN.{length, drop}
+use lib.ListN.{length, take, drop}
+use lib.Seq.{take-at}
 use lib.Signed.{leZ}
 use Rattle.whole.specs.Numbers.{liesIn}
 use Rattle.whole.specs.Signed.{signed}
@@ -17,15 +18,17 @@ use Rattle.limits.specs.Ranges.{radius-within}
 use Rattle.limits.specs.Refused.{kept-done}
 use Rattle.window.specs.Windows.{isSearched, isWide, slotsOf}
 use Rattle.record_slice.specs.RecordSlice.{recordAt}
+use Rattle.plan_file.specs.PlanFile.{wordsOf}
 use Rattle.best.specs.declared.Task.{Task}
 use Rattle.best.specs.Searched.{Candidates, candidates}
 use Rattle.block.specs.declared.Settings.{Settings}
 use Rattle.passes.specs.Fold.{blockAt, slotsAt, wordsUpto}
+use Rattle.passes.specs.FoldLaws.{words-long}
 use Rattle.planning.specs.Refusals.{blockCount, refusalOf}
 use Rattle.planning.specs.Planned.{planRecords}
 use Rattle.planning.specs.Accepted.{Accepted, accepted}
 use Rattle.plan_laws.specs.Windows.{planned-narrow}
-use Rattle.plan_laws.specs.ReadBack.{planned, record-read}
+use Rattle.plan_laws.specs.ReadBack.{record-read}
 
 module _ (s : Settings) (order vectors : List ℤ) (luma u v : List ℕ) (records indices : List ℤ)
     (done : refusalOf s order vectors (length luma) (length u) (length v) (length records) (length indices) ≡ 0) where
@@ -46,10 +49,6 @@ module _ (s : Settings) (order vectors : List ℤ) (luma u v : List ℕ) (record
   unfolding planRecords
   written-is = kept-done _ _ records done
 
-  record-is : (i : ℕ) → i < n → recordAt written i ≡ planned s order vectors i
-  record-is i there =
-      ap (λ (l : List ℤ). recordAt l i) written-is ∙ record-read s order vectors n i (drop (wordsPerRecord * n) records) there (taken .fit)
-
   radius-lies : liesIn (pos 0) (pos 3) radius ≡ true
   radius-lies =
       let w = radius-within (taken .set .search) in
@@ -59,10 +58,34 @@ module _ (s : Settings) (order vectors : List ℤ) (luma u v : List ℕ) (record
       let b : leZ radius (pos 3) ≡ true = omega signed in
       both-of a b
 
-  record-tame : (i : ℕ) → i < n → isWide radius (recordAt written i) ≡ false
-  record-tame i there = ap (isWide radius) (record-is i there) ∙ planned-narrow s (blockAt (s .grid) order vectors i) (slotsAt s order vectors i)
+  -- ---- words that begin with the plan's
+  module _ (words tail : List ℤ) (begins : words ≡ wordsUpto s order vectors n ++ tail) (i : ℕ) (there : i < n) where
+    tame : isWide radius (recordAt words i) ≡ false
+    tame =
+        ap (λ (l : List ℤ). isWide radius (recordAt l i)) begins
+        ∙ ap (isWide radius) (record-read s order vectors n i tail there (taken .fit))
+        ∙ planned-narrow s (blockAt (s .grid) order vectors i) (slotsAt s order vectors i)
 
+    in-words : isSearched (recordAt words i) ≡ true → (task : Task) (referenceLuma referenceU referenceV : List ℕ) →
+        Candidates task (recordAt words i) luma u v referenceLuma referenceU referenceV (slotsOf radius)
+    in-words searched task referenceLuma referenceU referenceV =
+        candidates task (recordAt words i) luma u v referenceLuma referenceU referenceV radius radius-lies tame searched
+
+  -- ---- the buffer that planning leaves
   pub planned-candidates : (i : ℕ) → i < n → isSearched (recordAt written i) ≡ true → (task : Task) (referenceLuma referenceU referenceV : List ℕ) →
       Candidates task (recordAt written i) luma u v referenceLuma referenceU referenceV (slotsOf radius)
-  planned-candidates i there searched task referenceLuma referenceU referenceV =
-      candidates task (recordAt written i) luma u v referenceLuma referenceU referenceV radius radius-lies (record-tame i there) searched
+  planned-candidates = in-words written (drop (wordsPerRecord * n) records) written-is
+
+  -- ---- a plan file whose words begin with those that planning wrote: `recordAt (wordsOf file)` is what its report counts
+  module _ (file : List ℕ) (tail : List ℤ) (begins : wordsOf file ≡ take (wordsPerRecord * n) written ++ tail) where
+    plan-first : wordsOf file ≡ wordsUpto s order vectors n ++ tail
+    plan-first =
+        begins
+        ∙ ap (λ (l : List ℤ). take (wordsPerRecord * n) l ++ tail) written-is
+        ∙ ap (λ (l : List ℤ). l ++ tail)
+        (take-at (wordsUpto s order vectors n) (drop (wordsPerRecord * n) records) (wordsPerRecord * n) (words-long s order vectors n))
+
+    pub reported-candidates : (i : ℕ) → i < n → isSearched (recordAt (wordsOf file) i) ≡ true →
+        (task : Task) (referenceLuma referenceU referenceV : List ℕ) →
+        Candidates task (recordAt (wordsOf file) i) luma u v referenceLuma referenceU referenceV (slotsOf radius)
+    reported-candidates = in-words (wordsOf file) tail plan-first

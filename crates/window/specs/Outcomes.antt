@@ -1,5 +1,5 @@
--- 02, Three: what becomes of a bad record. It is searched or kept, and never both; one that isn't bad is neither. And 7 is asked of searched records alone: an
--- empty side beside one of 65,536 is kept. Assumes nothing.
+-- 02, Three: what becomes of a bad record. It is searched or kept, and never both; one that isn't bad is neither. And 7 is never given for one that
+-- is kept: an empty side beside one of 65,536 is not refused. Assumes nothing.
 use mathlib.Core.Path.{_≡_, refl}
 use mathlib.Core.Bool.{Bool, true, false, _&&_, _||_, not, cond}
 use Prim.Native.Nat.{_+_}
