@@ -22,11 +22,6 @@ module _ (test : Record → Bool) (words : List ℤ) where
   unfolding tally
   one-more-counted n = rw add-one
 
-  -- as a loop counts: what was found so far, and the one that the next record adds
-  pub counted-next : (n : ℕ) {found one : ℕ} {given : Record} {passes : Bool} → found ≡ tally test words n →
-      given ≡ recordAt words n → passes ≡ test given → one ≡ cond passes 1 0 → found + one ≡ tally test words (n + 1)
-  counted-next n so-far read asked added = rw (so-far, added, asked, read) (sym (one-more-counted n))
-
   one-at-most : (t : Bool) → cond t 1 0 ≤ 1
   one-at-most true = omega arith
   one-at-most false = omega arith
@@ -35,6 +30,17 @@ module _ (test : Record → Bool) (words : List ℤ) where
   unfolding tally
   counted-most zero = omega arith
   counted-most (suc n) = omega (arith, counted-most n, one-at-most (test (recordAt words n)))
+
+  -- as a loop counts: with what was found so far and the one that the next record adds
+  pub record Next (n found one : ℕ) : Type 0 where
+    pub counted : found + one ≡ tally test words (n + 1)
+    pub few : found + one ≤ n + 1
+
+  pub counted-next : (n : ℕ) {found one : ℕ} {given : Record} {passes : Bool} → found ≡ tally test words n →
+      given ≡ recordAt words n → passes ≡ test given → one ≡ cond passes 1 0 → Next n found one
+  counted-next n {found} {one} so-far read asked added =
+      let counted : found + one ≡ tally test words (n + 1) = rw (so-far, added, asked, read) (sym (one-more-counted n)) in
+      record { counted = counted; few = omega (arith, counted, counted-most (n + 1)) }
 
 -- ---- two tests, and a third: each record counts once in the third where it counts once in one of the two
 module _ (a b all : Record → Bool) (once : (r : Record) → cond (a r) 1 0 + cond (b r) 1 0 ≡ cond (all r) 1 0) (words : List ℤ) where

@@ -1,10 +1,10 @@
 -- The loop's invariant: each count is the tally of the records passed, by its own test. One law of counting serves both. Assumes nothing.
 use mathlib.Core.Path.{_≡_, ap, _∙_}
-use Prim.Native.Nat.{_+_, _-_, _≤_}
+use Prim.Native.Nat.{_-_, _≤_}
 use native.Mathlib.Omega.{arith}
 use Rattle.window.specs.Windows.{isSearched, isKept}
 use Rattle.plan_file.specs.PlanFile.{tally}
-use Rattle.plan_file.specs.Counting.{none-counted, counted-next, counted-most}
+use Rattle.plan_file.specs.Counting.{none-counted, Next, counted-next}
 use Rattle.plan_file.specs.Alike.{alike-counts}
 use Rattle.plan_file.proofs.counts_of.Statement.{statement}
 use Rattle.plan_file.proofs.counts_of.Tie as tie
@@ -19,33 +19,19 @@ abbrev μ-loop : tie.MeasureT-loop
 -- ---- one record more, by either test
 searched-next : (c : tie.After-one-where Inv-loop μ-loop) →
     let l = c .before .before .before .before in
-    l .loop .searched + c .one-where .result ≡ tally isSearched (l .before .args .words .now) (l .loop .number + 1)
+    Next isSearched (l .before .args .words .now) (l .loop .number) (l .loop .searched) (c .one-where .result)
 searched-next c =
     let read = c .before .before in
     let l = read .before .before in
-    counted-next isSearched (l .before .args .words .now) (l .loop .number)
-    (l .loop .inv .1) (read .record-at .ensures .0) (c .before .is-searched .ensures) (c .one-where .ensures)
+    counted-next isSearched _ _ (l .loop .inv .1) (read .record-at .ensures .0) (c .before .is-searched .ensures) (c .one-where .ensures)
 
 kept-next : (c : tie.After-one-where2 Inv-loop μ-loop) →
     let l = c .before .before .before .before .before .before in
-    l .loop .kept + c .one-where2 .result ≡ tally isKept (l .before .args .words .now) (l .loop .number + 1)
+    Next isKept (l .before .args .words .now) (l .loop .number) (l .loop .kept) (c .one-where2 .result)
 kept-next c =
     let read = c .before .before .before .before in
     let l = read .before .before in
-    counted-next isKept (l .before .args .words .now) (l .loop .number)
-    (l .loop .inv .2) (read .record-at .ensures .0) (c .before .is-kept .ensures) (c .one-where2 .ensures)
-
-add-searched : tie.Need-add-searched Inv-loop μ-loop
-add-searched c =
-    let l = c .before .before .before .before in
-    let s = l .before in
-    omega (arith, searched-next c, counted-most isSearched (s .args .words .now) (l .loop .number + 1), s .good)
-
-add-kept : tie.Need-add-kept Inv-loop μ-loop
-add-kept c =
-    let l = c .before .before .before .before .before .before in
-    let s = l .before in
-    omega (arith, kept-next c, counted-most isKept (s .args .words .now) (l .loop .number + 1), s .good)
+    counted-next isKept _ _ (l .loop .inv .2) (read .record-at .ensures .0) (c .before .is-kept .ensures) (c .one-where2 .ensures)
 
 returns : tie.Need-returns Inv-loop μ-loop
 returns c =
@@ -66,11 +52,11 @@ counts-of-spec =
     (λ c κs. omega (arith, c .before .before .pre, c .loop-test .taken))
     (λ c κs. tt)
     (λ c κs. tt)
-    add-searched
+    (λ c. omega (arith, searched-next c .few, c .before .before .before .before .before .good))
     (λ c κs. tt)
     (λ c κs. tt)
-    add-kept
+    (λ c. omega (arith, kept-next c .few, c .before .before .before .before .before .before .before .good))
     (λ c. omega arith)
     (λ c. omega arith)
-    (λ c. (omega arith, searched-next (c .before .before), kept-next c))
+    (λ c. (omega arith, searched-next (c .before .before) .counted, kept-next c .counted))
     returns)
