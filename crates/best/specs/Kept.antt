@@ -20,7 +20,7 @@ use Rattle.best.specs.declared.Task.{Task}
 use Rattle.best.specs.declared.Best.{Best}
 use Rattle.best.specs.Best.{choiceOf, lumaTable, chromasOf, averageAt, bestOf}
 use Rattle.best.specs.Sides.{has-candidate-is}
-use Rattle.best.specs.Zero.{costAt, held}
+use Rattle.best.specs.VectorCosts.{costAt, held}
 
 -- of two counts that are not both above 0 one is 0
 one-is-0 : (a b : ℕ) → (ltb 0 a && ltb 0 b) ≡ false → (a ≡ 0) ⊎ (b ≡ 0)

@@ -2,6 +2,7 @@ pub mod Best
 pub mod Fair
 pub mod Laws
 pub mod Sides
+pub mod VectorCosts
 pub mod Zero
 pub mod NotBad
 pub mod Kept

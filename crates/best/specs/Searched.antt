@@ -9,10 +9,9 @@ use native.Mathlib.Omega.{arith}
 use borrow.Author.Tests.{ltb-true}
 use lib.Dec.{ltb}
 use lib.IntN.{ℤ, pos, _+ℤ_}
-use lib.Signed.{ltZ}
-use Rattle.whole.specs.Numbers.{liesIn}
+use lib.Signed.{ltZ, leZ}
 use Rattle.whole.specs.Signed.{signed}
-use Rattle.whole.specs.Truth.{left-of, right-of}
+use Rattle.whole.specs.Truth.{left-of, right-of, both-of}
 use Rattle.whole.specs.Interval.{Within}
 use Rattle.limits.specs.Ranges.{at-each-radius}
 use Rattle.records.specs.declared.Record.{Record}
@@ -24,8 +23,8 @@ use Rattle.choosing.specs.Entries.{heldAt}
 use Rattle.tables.specs.Laws.{inside, slot-candidate}
 use Rattle.best.specs.declared.Task.{Task}
 use Rattle.best.specs.Best.{choiceOf, lumaTable, chromasOf}
-use Rattle.best.specs.Sides.{has-candidate-is, sides-most}
-use Rattle.best.specs.Zero.{costAt, held}
+use Rattle.best.specs.Sides.{has-candidate-is, sides-most, narrowed}
+use Rattle.best.specs.VectorCosts.{costAt, held}
 
 -- ---- a slot in a window of at most m by m lies below m squared + 1
 slot-below : (p c j i : ℕ) → c ≤ suc p → j ≤ p → i < c → 1 + j * c + i < suc p * suc p + 1
@@ -35,17 +34,21 @@ slot-below p c j i narrow low l =
 -- ---- at each radius: a window's most is p + 1, p being 2 x radius, and the header's slots are its square and 1
 record Fits (radius : ℤ) : Type 0 where
   p : ℕ
-  few : suc p ≤ 7
   most : Within 0 (suc p) (mostOf radius)
   slots : slotsOf radius ≡ pos (suc p * suc p + 1)
 
-fits : (radius : ℤ) → liesIn (pos 0) (pos 3) radius ≡ true → Fits radius
-fits =
+fits : (radius : ℤ) → Within 0 3 radius → Fits radius
+fits radius w =
+    let low = w .low in
+    let high = w .high in
+    let a : leZ (pos 0) radius ≡ true = omega signed in
+    let b : leZ radius (pos 3) ≡ true = omega signed in
     at-each-radius Fits
-    (record { p = 0; few = omega arith; most = omega arith; slots = refl })
-    (record { p = 2; few = omega arith; most = omega arith; slots = refl })
-    (record { p = 4; few = omega arith; most = omega arith; slots = refl })
-    (record { p = 6; few = omega arith; most = omega arith; slots = refl })
+    (record { p = 0; most = omega arith; slots = refl })
+    (record { p = 2; most = omega arith; slots = refl })
+    (record { p = 4; most = omega arith; slots = refl })
+    (record { p = 6; most = omega arith; slots = refl })
+    radius (both-of a b)
 
 module _ (task : Task) (given : Record) (luma u v referenceLuma referenceU referenceV : List ℕ) where
   abbrev k : Choice
@@ -65,7 +68,7 @@ module _ (task : Task) (given : Record) (luma u v referenceLuma referenceU refer
     pub some : InTable slots 0 0
     pub each : (j i : ℕ) → j < rowsOf k → i < columnsOf k → InTable slots j i
 
-  module _ (radius : ℤ) (lies : liesIn (pos 0) (pos 3) radius ≡ true) (tame : isWide radius given ≡ false) (searched : isSearched given ≡ true) where
+  module _ (radius : ℤ) (lies : Within 0 3 radius) (tame : isWide radius given ≡ false) (searched : isSearched given ≡ true) where
     bad : isBad given ≡ true
     unfolding isSearched
     bad = left-of (isBad given) (hasCandidate given) searched
@@ -84,10 +87,7 @@ module _ (task : Task) (given : Record) (luma u v referenceLuma referenceU refer
     few = sides-most (suc (fits radius lies .p)) task radius given (fits radius lies .most) tame bad a-column a-row
 
     narrow : Narrow k
-    narrow = record {
-      across = λ _ _. omega (arith, few .0, fits radius lies .few);
-      down = λ _ _. omega (arith, few .1, fits radius lies .few);
-    }
+    narrow = narrowed task radius given lies tame bad
 
     in-table : (j i : ℕ) → j < rowsOf k → i < columnsOf k → InTable (slotsOf radius) j i
     unfolding slotOf

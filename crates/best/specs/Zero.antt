@@ -8,7 +8,7 @@ use Prim.Native.Nat.{ℕ, _+_, _*_, _/_, _^_, _≤_, _<_}
 use native.Mathlib.Nat.{mul-le-mul, one-le-pow}
 use native.Mathlib.Omega.{arith}
 use lib.IntN.{ℤ, pos, natAbs}
-use lib.ListN.{getD, getD-replicate}
+use lib.ListN.{getD}
 use mir.Syntax.{w32}
 use mir.Val.{SFits}
 use Rattle.whole.specs.Numbers.{liesIn}
@@ -21,15 +21,16 @@ use Rattle.distance.specs.Laws.{Agree, cost-distance}
 use Rattle.plane.specs.Samples.{placedFrom}
 use Rattle.choosing.specs.declared.Choice.{Choice}
 use Rattle.choosing.specs.Choosing.{slotOf, tripledOf, selected}
-use Rattle.choosing.specs.Entries.{heldAt, Own, sad-of-the-vector}
+use Rattle.choosing.specs.Entries.{Own, sad-of-the-vector}
 use Rattle.plane_view.specs.View.{placeBlock}
-use Rattle.tables.specs.Tables.{vectorOffset, tableOf}
-use Rattle.tables.specs.Laws.{inside, slot-0, slot-candidate, slot-joined}
+use Rattle.tables.specs.Tables.{vectorOffset}
+use Rattle.tables.specs.Laws.{inside, slot-0, slot-candidate}
 use Rattle.best.specs.declared.Task.{Task}
 use Rattle.best.specs.declared.Best.{Best}
-use Rattle.best.specs.Best.{noTable, widthOf, heightOf, choiceOf, sourceBlock, lumaReference, lumaCost, lumaTable}
-use Rattle.best.specs.Best.{chromaWidth, chromaHeight, chromaReference, uCost, vCost, scaleOf, planeTable, chromaTable, chromasOf, bestOf}
+use Rattle.best.specs.Best.{widthOf, heightOf, choiceOf, sourceBlock, lumaReference, lumaTable}
+use Rattle.best.specs.Best.{chromaWidth, chromaHeight, chromaReference, scaleOf, chromasOf, bestOf}
 use Rattle.best.specs.Fair.{Comparable}
+use Rattle.best.specs.VectorCosts.{costAt, held}
 use Rattle.best.specs.Laws.{Sized, searched-sides, chroma-sides, luma-most-at}
 
 -- ---- a cost over one of the five sizes is 0 exactly between blocks that agree
@@ -76,12 +77,6 @@ tripled-0 true l c small e =
 tripled-0 false l c small e = ap natAbs e
 
 module _ (task : Task) (given : Record) (luma u v referenceLuma referenceU referenceV : List ℕ) where
-  -- ---- the cost of a vector, in all planes that count
-  abbrev pub costAt : ℤ → ℤ → ℕ
-  costAt x y =
-      lumaCost task given luma referenceLuma x y
-      + cond (isNegative given) 0 ((uCost task given u referenceU x y + vCost task given v referenceV x y) * scaleOf task given)
-
   -- ---- all samples compared at a vector agree
   pub record AgreeAt (x y : ℤ) : Type 0 where
     pub in-luma :
@@ -94,7 +89,6 @@ module _ (task : Task) (given : Record) (luma u v referenceLuma referenceU refer
         Agree (chromaWidth task given) (chromaHeight task given)
         (placedFrom v (given .v) (natAbs (task .source .v .pitch))) (placeBlock referenceV (task .reference .v) (vectorOffset (chromaReference task given) x y))
 
-  -- ---- what the tables hold for a vector
   abbrev k : Choice
   k = choiceOf task given
 
@@ -104,47 +98,24 @@ module _ (task : Task) (given : Record) (luma u v referenceLuma referenceU refer
   abbrev chromas : List ℕ
   chromas = chromasOf task given u v referenceU referenceV
 
-  -- a slot is a vector's where every table has the vector's cost there
-  abbrev Of : ℤ → ℤ → ℕ → Type 0
-  Of x y slot = (cost : ℤ → ℤ → ℕ) → getD (tableOf 0 k cost) slot 0 ≡ cost x y
-
-  module _ {x y : ℤ} {slot : ℕ} (l : slot < 50) (of : Of x y slot) where
-    luma-held : getD lumas slot 0 ≡ lumaCost task given luma referenceLuma x y
-    unfolding lumaTable
-    luma-held = of (lumaCost task given luma referenceLuma)
-
-    chroma-held : (negative : Bool) →
-        getD (cond negative noTable (chromaTable task given u v referenceU referenceV)) slot 0
-        ≡ cond negative 0 ((uCost task given u referenceU x y + vCost task given v referenceV x y) * scaleOf task given)
-    unfolding chromaTable planeTable
-    chroma-held true = getD-replicate {A = ℕ} 50 slot 0 0 l
-    chroma-held false =
-        slot-joined (scaleOf task given) _ _ l
-        ∙ ap (λ (n : ℕ). n * scaleOf task given) (both (of (uCost task given u referenceU)) (of (vCost task given v referenceV)))
-      where
-        both : {a b c d : ℕ} → a ≡ c → b ≡ d → a + b ≡ c + d
-        both e f = omega arith
-
-    pub held : heldAt k lumas chromas slot ≡ pos (costAt x y)
-    unfolding chromasOf
-    held = ap pos (omega (arith, luma-held, chroma-held (isNegative given)))
-
   module _ (known : Comparable task given) (bad : isBad given ≡ true) (other : liesIn (pos 1) (pos 1) (task .pel) ≡ false) where
-    own-cost : {x y sad : ℤ} → Own k lumas chromas x y sad → sad ≡ pos (costAt x y)
+    own-cost : {x y sad : ℤ} → Own k lumas chromas x y sad → sad ≡ pos (costAt task given luma u v referenceLuma referenceU referenceV x y)
     unfolding slotOf
     own-cost =
         ⊎-elim
-        (λ q. rw (q .0, q .1) (q .2 ∙ held (omega arith) (slot-0 0 k)))
+        (λ q. rw (q .0, q .1) (q .2 ∙ held task given luma u v referenceLuma referenceU referenceV (omega arith) (slot-0 0 k)))
         (λ q.
         let narrow = known .narrow bad in
         rw (q .x-is, q .y-is)
-        (q .sad-is ∙ held (inside narrow (q .in-rows) (q .in-columns) .slot) (λ cost. slot-candidate 0 k cost narrow (q .in-rows) (q .in-columns))))
+        (q .sad-is
+        ∙ held task given luma u v referenceLuma referenceU referenceV (inside narrow (q .in-rows) (q .in-columns) .slot)
+        (λ cost. slot-candidate 0 k cost narrow (q .in-rows) (q .in-columns))))
 
     -- ---- the SAD answered is the cost of the vector answered, tripled where the block is negative
     abbrev pub best : Best
     best = bestOf task given luma u v referenceLuma referenceU referenceV
 
-    pub sad-is : best .sad ≡ tripledOf (isNegative given) (pos (costAt (best .x) (best .y)))
+    pub sad-is : best .sad ≡ tripledOf (isNegative given) (pos (costAt task given luma u v referenceLuma referenceU referenceV (best .x) (best .y)))
     unfolding bestOf selected
     sad-is = simp bad (ap (tripledOf (isNegative given)) (own-cost (sad-of-the-vector k lumas chromas other)))
 
@@ -161,7 +132,7 @@ module _ (task : Task) (given : Record) (luma u v referenceLuma referenceU refer
 
     -- and, between bytes, only there
     module _ (bytes : (n : ℕ) → getD luma n 0 < 256) (reference-bytes : (n : ℕ) → getD referenceLuma n 0 < 256) where
-      cost-0 : best .sad ≡ pos 0 → costAt (best .x) (best .y) ≡ 0
+      cost-0 : best .sad ≡ pos 0 → costAt task given luma u v referenceLuma referenceU referenceV (best .x) (best .y) ≡ 0
       cost-0 e = tripled-0 (isNegative given) _ _ (luma-most-at task given (known .block-in) luma referenceLuma bytes reference-bytes (best .x) (best .y))
           (sym sad-is ∙ e)
 

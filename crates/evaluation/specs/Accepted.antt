@@ -5,13 +5,13 @@ use mathlib.Core.List.{List}
 use Prim.Native.Nat.{ℕ, _*_, _/_, _≤_, _<_}
 use borrow.Author.Tests.{leb-true}
 use lib.Dec.{eqb, leb}
-use lib.IntN.{ℤ, pos, negsuc, _*ℤ_}
+use lib.IntN.{ℤ, pos, negsuc}
 use lib.ListN.{length}
 use Prim.Native.Nat.{_%_}
 use Rattle.limits.specs.Sizes.{wordsPerRecord, numbersPerBest}
 use Rattle.limits.specs.Ranges.{radius-within, shift-within, same-is, lies}
 use Rattle.whole.specs.Numbers.{liesIn, fitsI16}
-use Rattle.whole.specs.Signed.{signed, add-is, times-is}
+use Rattle.whole.specs.Signed.{signed}
 use Rattle.whole.specs.Truth.{left-of, right-of, three-of, four-of, five-of, six-of}
 use Rattle.whole.specs.Interval.{Within, i16-within}
 use Rattle.limits.specs.Limits.{same, isBlock, isFrameSide, isPel, areShifts, radiusOf}
@@ -20,14 +20,14 @@ use Rattle.limits.specs.Refused.{first-passed, each-fails, let-through}
 use Rattle.records.specs.declared.Pair.{Pair}
 use Rattle.records.specs.declared.Record.{Record}
 use Rattle.records.specs.Packing.{pairFits, pairsFit}
-use Rattle.window.specs.Windows.{isBad, mostOf, isWide}
+use Rattle.window.specs.Windows.{isWide}
 use Rattle.plane.specs.declared.Place.{Place}
 use Rattle.plane.specs.Places.{limitsHold, keepsLength, Placed}
-use Rattle.choosing.specs.Bounds.{Ranged, Narrow}
+use Rattle.choosing.specs.Bounds.{Ranged}
 use Rattle.best.specs.declared.Task.{Task}
 use Rattle.best.specs.Best.{choiceOf}
 use Rattle.best.specs.Fair.{Fair, Comparable}
-use Rattle.best.specs.Sides.{sides-most}
+use Rattle.best.specs.Sides.{narrowed}
 use Rattle.record_slice.specs.RecordSlice.{recordAt, anyWide}
 use Rattle.planes.specs.Planes.{planesHold, holds3}
 use Rattle.planes.specs.Lying.{Lies, lying, three-lie}
@@ -48,9 +48,6 @@ parts p e =
       second = i16-within (p .second) (right-of (fitsI16 (p .first)) (fitsI16 (p .second)) e);
     }
 
-most-within : (radius : ℤ) → Within 0 3 radius → Within 0 7 (mostOf radius)
-most-within radius w = let low = w .low in let high = w .high in omega (signed, times-is radius 2, add-is (radius *ℤ pos 2) (pos 1))
-
 -- the pairs of a record that was read fit 16 bits
 pub ranged : (task : Task) (r : Record) → pairsFit r ≡ true → Ranged (choiceOf task r)
 ranged task r pairs =
@@ -59,11 +56,6 @@ ranged task r pairs =
     let x = parts (r .«window_x») (t .3) in
     let y = parts (r .«window_y») (t .4) in
     record { x = p .first; y = p .second; least-x = x .first; greatest-x = x .second; least-y = y .first; greatest-y = y .second }
-
-pub narrowed : (task : Task) (radius : ℤ) (r : Record) → Within 0 3 radius → isWide radius r ≡ false → isBad r ≡ true → Narrow (choiceOf task r)
-narrowed task radius r w e b =
-    let both = sides-most 7 task radius r (most-within radius w) e b in
-    record { across = λ h k. both h k .0; down = λ h k. both h k .1 }
 
 -- ---- the planes
 -- a reference plane lies as the source's does

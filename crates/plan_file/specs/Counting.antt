@@ -18,7 +18,7 @@ module _ (test : Record → Bool) (words : List ℤ) where
   unfolding tally
   none-counted = refl
 
-  pub one-more-counted : (n : ℕ) → tally test words (n + 1) ≡ tally test words n + cond (test (recordAt words n)) 1 0
+  one-more-counted : (n : ℕ) → tally test words (n + 1) ≡ tally test words n + cond (test (recordAt words n)) 1 0
   unfolding tally
   one-more-counted n = rw add-one
 

@@ -14,16 +14,16 @@ use Rattle.limits.specs.Refused.{kept-done}
 use Rattle.planes.specs.declared.Planes.{Planes}
 use Rattle.block.specs.declared.Settings.{Settings}
 use Rattle.passes.specs.Fold.{wordsUpto, indicesUpto}
-use Rattle.passes.specs.FoldLaws.{words-long, indices-long}
 use Rattle.planning.specs.Refusals.{blockCount, refusalOf}
-use Rattle.planning.specs.Planned.{madeOf, planRecords, planIndices}
-use Rattle.planning.specs.Accepted.{Accepted, accepted}
+use Rattle.planning.specs.Planned.{madeOf}
+use Rattle.planning.specs.Accepted.{Accepted}
 use Rattle.evaluation.specs.declared.Request.{Request}
 use Rattle.evaluation.specs.Evaluated.{taskOf, bestsUpto, evaluateAnswer, evaluateBests}
 use Rattle.evaluation.specs.BestsLaws.{bests-long}
 use Rattle.finishing.specs.Finish.{finishAnswer, finishVectors, finishOutput}
 use Rattle.finishing.specs.Finished.{tail-stays}
 use Rattle.whole_pass.specs.Pass.{requestOf, passVectors, passOutput}
+use Rattle.whole_pass.specs.AfterPlanning as planning
 use Rattle.whole_pass.specs.Evaluates.{record-count}
 use Rattle.whole_pass.specs.Done.{Referred, evaluation-done}
 use Rattle.whole_pass.specs.Finishes.{finishing-done, pass-vectors, pass-output}
@@ -39,35 +39,21 @@ module _ (s : Settings) (measure : Bool) (pnew : ℤ) (reference : Planes) (orde
   abbrev pub n : ℕ
   n = blockCount (s .grid)
 
-  taken : Accepted s order vectors (length records) (length indices)
-  taken = accepted s order vectors (length luma) (length u) (length v) (length records) (length indices) planned
-
-  -- ---- what planning leaves: its words and indices, and then the tails
+  -- ---- what planning leaves: its words and indices, and then the tails (AfterPlanning)
   abbrev pub written : List ℤ
-  written = planRecords s order vectors (length luma) (length u) (length v) records (length indices)
+  written = planning.written s order vectors luma u v records indices planned
 
   abbrev pub named : List ℤ
-  named = planIndices s order vectors (length luma) (length u) (length v) (length records) indices
+  named = planning.named s order vectors luma u v records indices planned
 
-  written-is : written ≡ wordsUpto s order vectors n ++ drop (wordsPerRecord * n) records
-  unfolding planRecords
-  written-is = kept-done _ _ records planned
+  records-are : take (wordsPerRecord * n) written ≡ wordsUpto s order vectors n
+  records-are = planning.records-are s order vectors luma u v records indices planned
 
-  named-is : named ≡ indicesUpto s order vectors n ++ drop n indices
-  unfolding planIndices
-  named-is = kept-done _ _ indices planned
+  indices-are : take n named ≡ indicesUpto s order vectors n
+  indices-are = planning.indices-are s order vectors luma u v records indices planned
 
-  pub records-are : take (wordsPerRecord * n) written ≡ wordsUpto s order vectors n
-  records-are = ap (take (wordsPerRecord * n)) written-is ∙ take-at (wordsUpto s order vectors n) _ (wordsPerRecord * n) (words-long s order vectors n)
-
-  pub records-tail : drop (wordsPerRecord * n) written ≡ drop (wordsPerRecord * n) records
-  records-tail = ap (drop (wordsPerRecord * n)) written-is ∙ drop-at (wordsUpto s order vectors n) _ (wordsPerRecord * n) (words-long s order vectors n)
-
-  pub indices-are : take n named ≡ indicesUpto s order vectors n
-  indices-are = ap (take n) named-is ∙ take-at (indicesUpto s order vectors n) _ n (indices-long s order vectors n)
-
-  pub indices-tail : drop n named ≡ drop n indices
-  indices-tail = ap (drop n) named-is ∙ drop-at (indicesUpto s order vectors n) _ n (indices-long s order vectors n)
+  taken : Accepted s order vectors (length records) (length indices)
+  taken = planning.taken s order vectors luma u v records indices planned
 
   -- ---- evaluating the words is done, and leaves five numbers a block, and then the tail
   pub evaluated : evaluateAnswer q (take (wordsPerRecord * n) written) luma u v referenceLuma referenceU referenceV (length bests) ≡ 0
