@@ -1,5 +1,7 @@
 // How many samples of a block lie outside a plane's data. What the bytes are doesn't count: black is
 // there. A row is counted at once: what it shares with the data is there, and the rest of it is not.
+#![tactic(auto)]
+
 ghost use Rattle.std.specs.Prelude.{◌≡◌, true, ◌≤◌, length};
 ghost use Rattle.whole.specs.Interval.{Within};
 ghost use Rattle.whole.specs.Signed.{P};

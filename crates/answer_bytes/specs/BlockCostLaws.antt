@@ -96,7 +96,8 @@ module _ (measure width height : ℤ) (a : List ℕ) (pitch-a : ℤ) (b : List �
     unfolding cost_number
     outcome_3 e = refused 2 (rw (fit, e))
 
-    module _ (held : (is_held a (nat_abs pitch-a) (nat_abs width) (nat_abs height) && is_held b (nat_abs pitch-b) (nat_abs width) (nat_abs height)) ≡ true) where
+    module _ (held : (is_held a (nat_abs pitch-a) (nat_abs width) (nat_abs height) && is_held b (nat_abs pitch-b) (nat_abs width) (nat_abs height))
+        ≡ true) where
       pub outcome_5 : length out < 4 → Outcome 5 out
       unfolding cost_number
       outcome_5 short = refused 4 (rw (fit, held, lt-ltb (length out) 4 short))

@@ -1,4 +1,6 @@
 // Answers of one number, as a host gets them: four bytes in a lent buffer. And block cost, which answers in no other way.
+#![tactic(auto)]
+
 ghost use Rattle.std.specs.Prelude.{◌≡◌, ◌≤◌, ◌<◌, length};
 ghost use Rattle.answer_bytes.specs.Word.{word_number, word_bytes};
 ghost use Rattle.answer_bytes.specs.Slots.{slots_answer};

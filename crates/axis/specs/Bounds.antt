@@ -1,6 +1,6 @@
 -- The ranges that the limits of 01 leave to the numbers of an axis, which its functions ask of their callers; and the
 -- ranges of what is worked out from them. Assumes nothing.
-use Rattle.std.specs.Prelude.{ℤ, ◌+ℤ◌, ◌-ℤ◌}
+use Rattle.std.specs.Prelude.{◌+ℤ◌, ◌-ℤ◌}
 use Rattle.std.proofs.Math.IntN.{pos}
 use Rattle.std.specs.Int.Signed.{lt_z, le_z}
 use Rattle.whole.specs.Interval.{Within, within_literal, within_add, within_sub, within_times, within_more, within_either}

@@ -1,3 +1,2 @@
 pub mod Axis
 pub mod Bounds
-pub mod Examples

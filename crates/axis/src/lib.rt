@@ -1,5 +1,7 @@
 // One axis of a block's plan: the limits of its predictor, how far the predictor lies outside them,
 // where the block's samples are then taken, and the window that is searched.
+#![tactic(auto)]
+
 ghost use Rattle.std.specs.Prelude.{◌≡◌};
 ghost use Rattle.whole.specs.Interval.{Within};
 ghost use Rattle.axis.specs.Axis.{least_of, end_of, margin_of, excess_by, excess_of, place_of, window_of};
@@ -7,7 +9,7 @@ ghost use Rattle.axis.specs.Bounds.{Bounded};
 
 use records::Pair;
 
-#[derive(Drop)]
+#[derive(Clone, Copy)]
 pub struct Axis {
     pub pel: i32,
     pub frame: i32,

@@ -1,5 +1,6 @@
 -- What `Fair` leaves of a block's numbers, and how large its costs are. Assumes nothing.
-use Rattle.std.specs.Prelude.{◌≡◌, refl, Bool, true, false, cond, ◌&&◌, ◌||◌, List, ℕ, zero, suc, ◌+◌, ◌*◌, ◌/◌, ◌^◌, ◌≤◌, ◌<◌, T, leb, ℤ, pos, negsuc, nat_abs, get_or}
+use Rattle.std.specs.Prelude.{◌≡◌, refl, Bool, true, false, cond, ◌&&◌, ◌||◌, List, ℕ, zero, suc, ◌+◌, ◌*◌, ◌/◌, ◌^◌, ◌≤◌, ◌<◌}
+use Rattle.std.specs.Prelude.{T, leb, ℤ, pos, negsuc, nat_abs, get_or}
 use Rattle.std.proofs.Common.{sym, ap, ◌∙◌, ⊎_elim, arith, leb→le, to_z, of_z}
 use Rattle.std.specs.Int.Signed.{lt_z, shr_z}
 use Rattle.std.specs.Int.{w32}
@@ -78,8 +79,11 @@ sized m n a b c d e =
 -- a block's own sides, and halved
 halved_or_not : (halve : Bool) (w h : ℤ) → is_block w h ≡ true → Sized (nat_abs (cond halve (shr_z w 2) w)) (nat_abs (cond halve (shr_z h 2) h))
 halved_or_not true =
-    at_each_block (λ x y. Sized (nat_abs (shr_z x 2)) (nat_abs (shr_z y 2))) (sized 1 1 tt tt tt tt refl) (sized 2 1 tt tt tt tt refl) (sized 2 2 tt tt tt tt refl)
-halved_or_not false = at_each_block (λ x y. Sized (nat_abs x) (nat_abs y)) (sized 2 2 tt tt tt tt refl) (sized 4 2 tt tt tt tt refl) (sized 4 4 tt tt tt tt refl)
+    at_each_block (λ x y. Sized (nat_abs (shr_z x 2)) (nat_abs (shr_z y 2)))
+    (sized 1 1 tt tt tt tt refl) (sized 2 1 tt tt tt tt refl) (sized 2 2 tt tt tt tt refl)
+halved_or_not false =
+    at_each_block (λ x y. Sized (nat_abs x) (nat_abs y))
+    (sized 2 2 tt tt tt tt refl) (sized 4 2 tt tt tt tt refl) (sized 4 4 tt tt tt tt refl)
 
 -- ---- parts that fit i16
 first_within : (p : Pair) → pair_fits p ≡ true → Within 32768 32767 p.first

@@ -1,4 +1,6 @@
 // One block's best: its vector, its SAD and its average, from its record and the planes.
+#![tactic(auto)]
+
 ghost use Rattle.std.specs.Prelude.{◌≡◌, true, ◌^◌, nat_abs};
 ghost use Rattle.whole.specs.Interval.{Within};
 ghost use Rattle.limits.specs.Limits.{shifted_by};
@@ -16,7 +18,7 @@ use records::{Offset, Record};
 use tables::Reference;
 
 // What all records share. The shift is the horizontal one.
-#[derive(Drop)]
+#[derive(Clone, Copy)]
 pub struct Task {
     pub measure: bool,
     pub block: Sides,
@@ -27,7 +29,7 @@ pub struct Task {
     pub reference: Planes,
 }
 
-#[derive(Drop)]
+#[derive(Clone, Copy)]
 pub struct Best {
     pub x: i32,
     pub y: i32,

@@ -4,5 +4,3 @@ pub mod Asked
 pub mod Alike
 pub mod Bounds
 pub mod Reach
-pub mod Stages
-pub mod Examples

@@ -212,7 +212,8 @@ module _ {s : Settings} {b : Block} (k : Ready s b) where
   spot_held moves =
       let x = subst (λ (z : ℤ). Before z (place_of moves (shape_of s b).across)) frame_across
       (inside_before (place_inside (shape_of s b).across across_inside moves)) in
-      let y = subst (λ (z : ℤ). Before z (place_of moves (shape_of s b).down)) frame_down (inside_before (place_inside (shape_of s b).down down_inside moves)) in
+      let y = subst (λ (z : ℤ). Before z (place_of moves (shape_of s b).down)) frame_down
+      (inside_before (place_inside (shape_of s b).down down_inside moves)) in
       let cx : (shape_of s b).negative ≡ false → Before (shifted_by s.planes.luma.width s.shift.x)
       (chroma_place (shape_of s b).across.origin (place_of moves (shape_of s b).across) s.shift.x) =
       λ e. subst (λ (z : ℤ). Before (shifted_by z s.shift.x) (chroma_place (shape_of s b).across.origin (place_of moves (shape_of s b).across)

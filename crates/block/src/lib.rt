@@ -1,4 +1,6 @@
 // One block's plan: its shape, whether it is bad, which slot its samples come from, its record.
+#![tactic(auto)]
+
 ghost use Rattle.std.specs.Prelude.{◌≡◌, Bool};
 ghost use Rattle.whole.specs.Interval.{Within};
 ghost use Rattle.plane.specs.Places.{pel1_of};
@@ -15,21 +17,21 @@ use slots::{Slots, Source};
 
 // Laid out as C lays them out: a host hands settings over by value.
 #[repr(C)]
-#[derive(Drop)]
+#[derive(Clone, Copy)]
 pub struct Search {
     pub exhaustive: bool,
     pub search_param: i32,
 }
 
 #[repr(C)]
-#[derive(Drop)]
+#[derive(Clone, Copy)]
 pub struct Weights {
     pub lambda: i32,
     pub bad_sad: i32,
 }
 
 #[repr(C)]
-#[derive(Drop)]
+#[derive(Clone, Copy)]
 pub struct Level {
     pub smallest: bool,
     pub need_luma: bool,
@@ -37,7 +39,7 @@ pub struct Level {
 }
 
 #[repr(C)]
-#[derive(Drop)]
+#[derive(Clone, Copy)]
 pub struct Settings {
     pub search: Search,
     pub weights: Weights,
@@ -50,7 +52,7 @@ pub struct Settings {
 }
 
 // A block of the order: its column and row in the grid, and the vector and SAD that it has so far.
-#[derive(Drop)]
+#[derive(Clone, Copy)]
 pub struct Block {
     pub x: i32,
     pub y: i32,
@@ -59,7 +61,7 @@ pub struct Block {
     pub sad: i32,
 }
 
-#[derive(Drop)]
+#[derive(Clone, Copy)]
 pub struct Shape {
     pub across: Axis,
     pub down: Axis,
@@ -67,7 +69,7 @@ pub struct Shape {
 }
 
 // A place in the luma plane, and the one in the chroma planes that goes with it.
-#[derive(Drop)]
+#[derive(Clone, Copy)]
 pub struct Spot {
     pub x: i32,
     pub y: i32,
@@ -75,7 +77,7 @@ pub struct Spot {
     pub cy: i32,
 }
 
-#[derive(Drop)]
+#[derive(Clone, Copy)]
 pub struct Step {
     pub made: Record,
     pub slots: Slots,

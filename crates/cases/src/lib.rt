@@ -1,5 +1,6 @@
 // Test vectors: a line for each case. It begins with the word of its kind; whole numbers stand behind it,
 // the inputs left of an `=` and the answers right of it. A line that is empty or begins with # is no case.
+#![tactic(auto)]
 
 ghost use Rattle.std.specs.Prelude.{◌≡◌, ◌<◌, ◌≤◌, true, length};
 ghost use Rattle.cases.specs.Places.{Past, Reach, Sized, Tells};
@@ -8,7 +9,7 @@ ghost use Rattle.cases.specs.Tallies.{tallied_by};
 
 // What is known of a line on the way through it. It is broken once something stands in it that no
 // vector has, and stays so: what was read of such a line is never compared.
-#[derive(Drop)]
+#[derive(Clone, Copy)]
 pub struct Case {
     pub inputs: usize,
     pub count: usize,
@@ -21,7 +22,7 @@ pub struct Case {
 
 // A line's word ends at word; the line is whole where its numbers are numbers, all of them were
 // stored, and one `=` parts them.
-#[derive(Drop)]
+#[derive(Clone, Copy)]
 pub struct Line {
     pub case: bool,
     pub whole: bool,
@@ -195,7 +196,7 @@ pub fn is(number: i64, value: i32) -> bool
 }
 
 // How many lines were read, how many of them are cases, and how many of these differ.
-#[derive(Drop)]
+#[derive(Clone, Copy)]
 pub struct Tally {
     pub lines: u64,
     pub cases: u64,

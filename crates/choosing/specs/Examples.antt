@@ -56,13 +56,15 @@ unfolding after_distance distance_cost
 step_away = (refl, refl)
 
 pub at_pel_1 : chosen (around (pos 1)) lumas [] ≡ at (pos 0) (pos 0) (pos 7)
-unfolding count_of slot_of distance_cost penalty_of with_penalty luma_column luma_of chroma_of after_distance after_luma after_chroma advanced restarted taken candidate
+unfolding count_of slot_of distance_cost penalty_of with_penalty luma_column luma_of chroma_of after_distance after_luma after_chroma advanced
+    restarted taken candidate
     along_row along_rows start answer_of chosen
 at_pel_1 = refl
 
 -- at pel 2 it takes its own 90, and the predictor is kept
 pub at_pel_2 : chosen (around (pos 2)) lumas [] ≡ at (pos 0) (pos 0) (pos 50)
-unfolding count_of slot_of distance_cost penalty_of with_penalty luma_column luma_of chroma_of after_distance after_luma after_chroma advanced restarted taken candidate
+unfolding count_of slot_of distance_cost penalty_of with_penalty luma_column luma_of chroma_of after_distance after_luma after_chroma advanced
+    restarted taken candidate
     along_row along_rows start answer_of chosen
 at_pel_2 = refl
 
@@ -87,13 +89,15 @@ unfolding penalty_of
 wraps_below = refl
 
 pub tie_at_luma : chosen alone (16 ∷ 16 ∷ []) (0 ∷ 8 ∷ []) ≡ at (pos 0) (pos 0) (pos 16)
-unfolding count_of slot_of distance_cost penalty_of with_penalty luma_column luma_of chroma_of after_distance after_luma after_chroma advanced restarted taken candidate
+unfolding count_of slot_of distance_cost penalty_of with_penalty luma_column luma_of chroma_of after_distance after_luma after_chroma advanced
+    restarted taken candidate
     along_row along_rows start answer_of chosen
 tie_at_luma = refl
 
 -- with a least cost of 17 the same candidate goes on, and is taken
 pub below_at_luma : chosen alone (17 ∷ 16 ∷ []) (0 ∷ 8 ∷ []) ≡ at (pos 1) (pos 0) (pos 24)
-unfolding count_of slot_of distance_cost penalty_of with_penalty luma_column luma_of chroma_of after_distance after_luma after_chroma advanced restarted taken candidate
+unfolding count_of slot_of distance_cost penalty_of with_penalty luma_column luma_of chroma_of after_distance after_luma after_chroma advanced
+    restarted taken candidate
     along_row along_rows start answer_of chosen
 below_at_luma = refl
 

@@ -1,4 +1,5 @@
 // One block's choice from its two cost tables: which vector of the window costs least, walked row by row.
+#![tactic(auto)]
 
 ghost use Rattle.std.specs.Prelude.{◌≡◌, true, ◌+◌, ◌<◌, pos, ◌+ℤ◌};
 ghost use Rattle.whole.specs.Interval.{Within};
@@ -6,7 +7,7 @@ ghost use Rattle.choosing.specs.Choosing.{count_of, columns_of, rows_of, distanc
 ghost use Rattle.choosing.specs.Bounds.{Small, Ranged, Served};
 
 // What a block is chosen by: its predictor, its window, and the three numbers that costs are made with.
-#[derive(Drop)]
+#[derive(Clone, Copy)]
 pub struct Choice {
     pub x: i32,
     pub y: i32,
@@ -19,7 +20,7 @@ pub struct Choice {
     pub pel: i32,
 }
 
-#[derive(Drop)]
+#[derive(Clone, Copy)]
 pub struct Chosen {
     pub x: i32,
     pub y: i32,

@@ -1,3 +1,8 @@
 pub mod Tiles
 pub mod Rows
 pub mod SideBySide
+pub mod Absolute
+pub mod HadamardLaws
+pub mod Butterflies
+pub mod Laws
+pub mod Views

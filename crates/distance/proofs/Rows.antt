@@ -12,8 +12,8 @@ use Rattle.whole.specs.Interval.{Within}
 use Rattle.distance.specs.declared.Quad.{Quad}
 use Rattle.distance.specs.Distance.{sum, gap, block_of, tile_sum, differ}
 use Rattle.distance.specs.Sums.{sum_eq, sum_below}
-use Rattle.distance.specs.Absolute.{abs_small, byte_less}
-use Rattle.distance.specs.Hadamard.{tile_same, tile_most}
+use Rattle.distance.proofs.Absolute.{abs_small, byte_less}
+use Rattle.distance.proofs.HadamardLaws.{tile_same, tile_most}
 use Rattle.distance.specs.Parts.{gaps, pick, entry, Small, SmallRows, row_less, tile_less, tiles_less}
 use Rattle.distance.specs.Steps.{quad_of, tile_of}
 

@@ -10,8 +10,8 @@ use lib.Seq.{get_or-set_same, get_or-set_other}
 use Rattle.whole.specs.Signed.{lt_or_ge}
 use Rattle.distance.specs.declared.Quad.{Quad}
 use Rattle.distance.specs.declared.Tile.{Tile}
-use Rattle.distance.specs.Hadamard.{along_same}
-use Rattle.distance.specs.Butterflies.{column_turned, tiles_agree}
+use Rattle.distance.proofs.HadamardLaws.{along_same}
+use Rattle.distance.proofs.Butterflies.{column_turned, tiles_agree}
 use Rattle.distance.specs.Steps.{column_step, quad_of, tile_of}
 use Rattle.distance.specs.Parts.{pick, turned, tile_less, Stepped, tile_in}
 use Rattle.distance.proofs.Tiles.{quads_alike}

@@ -13,8 +13,8 @@ use Rattle.distance.specs.declared.Tile.{Tile}
 use Rattle.distance.specs.declared.Steps.{Steps}
 use Rattle.distance.specs.Distance.{sum, hadamard_at, tile_sum}
 use Rattle.distance.specs.Hadamard.{plain}
-use Rattle.distance.specs.Absolute.{abs_small}
-use Rattle.distance.specs.Butterflies.{column_step_lem, row_step_lem}
+use Rattle.distance.proofs.Absolute.{abs_small}
+use Rattle.distance.proofs.Butterflies.{column_step_lem, row_step_lem}
 use Rattle.distance.specs.Steps.{column_step, tile_of, steps_of}
 use Rattle.distance.specs.Parts.{entry, Small, SmallRows, turned, rows_turned, rows_added, rows_subtracted, columns_turned, row_plain}
 
@@ -88,7 +88,7 @@ pub record Size (r : ℕ) (z : ℤ) : Type 0 where
 
 pub size : {r : ℕ} {z : ℤ} → Within 4080 4080 z → r ≡ nat_abs (to_z w16 (of_z w16 z)) → Size r z
 size {r} {z} p e =
-    let same : r ≡ nat_abs z = e ∙ ap nat_abs (to_z-of_z (fits p tt tt)) in record { same = same; below = omega (arith, abs_small p) }
+    let same : r ≡ nat_abs z = e ∙ ap nat_abs (to_z-of_z {w = w16} (fits p tt tt)) in record { same = same; below = omega (arith, abs_small p) }
 
 -- ---- what the machine reads of a row, and what the butterflies make of it
 module _ {q : Quad} (s : Small 1020 q) where

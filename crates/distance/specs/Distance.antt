@@ -1,6 +1,7 @@
 -- SAD and SATD of two blocks of samples, over any width and height: 01, "Evaluating and choosing". Definitions alone.
 -- What holds of them is in Laws, and 01's two numbers for them in Examples.
-use Rattle.std.specs.Prelude.{Bool, true, false, List, [], ◌∷◌, ℕ, zero, suc, ◌+◌, ◌-◌, ◌*◌, ◌/◌, ◌≤◌, ℤ, pos, negsuc, ◌+ℤ◌, ◌-ℤ◌, ◌*ℤ◌, nat_abs, get_or, length}
+use Rattle.std.specs.Prelude.{Bool, true, false, List, [], ◌∷◌, ℕ, zero, suc, ◌+◌, ◌-◌, ◌*◌, ◌/◌, ◌≤◌}
+use Rattle.std.specs.Prelude.{ℤ, pos, negsuc, ◌+ℤ◌, ◌-ℤ◌, ◌*ℤ◌, nat_abs, get_or, length}
 
 -- ---- a block is a function of row and column
 abbrev pub Block : Type 0

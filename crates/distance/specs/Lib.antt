@@ -1,10 +1,7 @@
 pub mod Distance
 pub mod Examples
 pub mod Laws
-pub mod Views
 pub mod Hadamard
-pub mod Absolute
 pub mod Sums
 pub mod Parts
 pub mod Steps
-pub mod Butterflies

@@ -1,5 +1,5 @@
 -- Laws of finite sums, of natural numbers and of integers: terms compared one by one, sums added, exchanged, and taken by fours. Assumes nothing.
-use Rattle.std.specs.Prelude.{◌≡◌, refl, ℕ, zero, suc, ◌+◌, ◌-◌, ◌*◌, ◌%◌, ◌≤◌, ◌<◌, ℤ, pos, ◌+ℤ◌}
+use Rattle.std.specs.Prelude.{◌≡◌, refl, ℕ, zero, suc, ◌+◌, ◌*◌, ◌%◌, ◌≤◌, ◌<◌, ℤ, pos, ◌+ℤ◌}
 use Rattle.std.proofs.Common.{ap, sym, ◌∙◌, ⊎_elim, le_refl, arith}
 use Rattle.whole.specs.Signed.{signed, add_is, lt_or_ge}
 use Rattle.distance.specs.Distance.{sum, sum_z}

@@ -1,5 +1,6 @@
 // SAD and SATD of two blocks of bytes, and the cost that is one of the two. The rows of a block in
 // the slice a start ap bytes apart, those of the block in b start bp apart.
+#![tactic(auto)]
 
 ghost use Rattle.std.specs.Prelude.{◌≡◌, ◌+◌, ◌*◌, ◌≤◌, pos, ◌-ℤ◌, nat_abs, length};
 ghost use Rattle.whole.specs.Interval.{Within};
@@ -49,7 +50,7 @@ fn sad_of(w: usize, h: usize, a: &[u8], ap: usize, b: &[u8], bp: usize) -> u32
 
 // Four numbers of a tile's row, and four rows. Every Hadamard value of bytes fits an i16, and eight
 // of these go into one register.
-#[derive(Drop)]
+#[derive(Clone, Copy)]
 pub struct Quad {
     pub a: i16,
     pub b: i16,
@@ -57,7 +58,7 @@ pub struct Quad {
     pub d: i16,
 }
 
-#[derive(Drop)]
+#[derive(Clone, Copy)]
 pub struct Tile {
     pub a: Quad,
     pub b: Quad,
@@ -197,7 +198,7 @@ fn weight(t: Tile) -> u16
 }
 
 // A tile's steps: columns first, then rows. What is left are the Hadamard values.
-#[derive(Drop)]
+#[derive(Clone, Copy)]
 pub struct Steps {
     pub columns: Tile,
     pub values: Tile,

@@ -8,7 +8,6 @@ use Rattle.whole.specs.Signed.{signed}
 use Rattle.whole.specs.Truth.{left_of, right_of, three_of, four_of, five_of, six_of}
 use Rattle.whole.specs.Interval.{Within, i16_within}
 use Rattle.limits.specs.Limits.{same, is_block, is_frame_side, is_pel, are_shifts, radius_of}
-use Rattle.limits.specs.Refusals.{first}
 use Rattle.limits.specs.Refused.{first_passed, each_fails, let_through}
 use Rattle.records.specs.declared.Pair.{Pair}
 use Rattle.records.specs.declared.Record.{Record}

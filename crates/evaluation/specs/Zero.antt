@@ -12,7 +12,8 @@ use Rattle.window.specs.Windows.{is_bad}
 use Rattle.record_slice.specs.RecordSlice.{record_at}
 use Rattle.best.specs.declared.Best.{Best}
 use Rattle.best.specs.Fair.{Comparable}
-use Rattle.best.specs.Zero.{AgreeAt, zero_where_agreed, zero_only}
+use Rattle.best.specs.Zero.{AgreeAt}
+use Rattle.best.proofs.Zero.{zero_where_agreed, zero_only}
 use Rattle.evaluation.specs.declared.Request.{Request}
 use Rattle.evaluation.specs.Evaluated.{task_of, best_at, fifth_at, evaluate_answer, evaluate_bests}
 use Rattle.evaluation.specs.Accepted.{Accepted, accepted}

@@ -1,4 +1,6 @@
 // Evaluating: the refusals in the table's order, and then the best of every record.
+#![tactic(auto)]
+
 ghost use Rattle.std.specs.Prelude.{◌≡◌, ◌++◌, ◌+◌, ◌*◌, ◌/◌, ◌≤◌, length, drop};
 ghost use Rattle.std.proofs.Math.Seq.{paste};
 ghost use Rattle.limits.specs.Sizes.{words_per_record, numbers_per_best};
@@ -14,7 +16,7 @@ use plane::Place;
 use planes::{Planes, Sides};
 
 #[repr(C)]
-#[derive(Drop)]
+#[derive(Clone, Copy)]
 pub struct Request {
     pub measure: bool,
     pub block: Sides,

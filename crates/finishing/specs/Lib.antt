@@ -3,7 +3,5 @@ pub mod Asked
 pub mod Table
 pub mod Written
 pub mod Served
-pub mod Outcome
-pub mod Finished
 pub mod FifthIgnored
 pub mod Examples

@@ -14,7 +14,8 @@ use Rattle.whole.specs.Signed.{signed, range, abs_is}
 use Rattle.whole.specs.Truth.{both_of}
 use Rattle.limits.specs.Refused.{neither_first, neither_second, each_fails, first_passed}
 use Rattle.finishing.specs.Asked.{Grid, Placed, Scored}
-use Rattle.finishing.specs.Finish.{index_at, block_at, x_at, y_at, refused1, sides_over, refused2, is_stray, refused4, refused5, is_wild, refused7, finish_answer}
+use Rattle.finishing.specs.Finish.{index_at, block_at, x_at, y_at, refused1, sides_over, refused2, is_stray, refused4, refused5, is_wild, refused7}
+use Rattle.finishing.specs.Finish.{finish_answer}
 
 pub grid_of : (nx ny : ℤ) → refused1 nx ny ≡ false → sides_over nx ny ≡ false → Grid nx ny
 grid_of nx ny b o =
@@ -42,7 +43,8 @@ inside_of blocks index e =
     record { above = p; below = omega (signed, abs_is index) }
 
 -- and as it is cast
-pub index_cast : (index : ℤ) → SFits w32 index → lt_z index (pos 0) ≡ false → T (non_neg (to_z w32 (of_z w32 index))) × Fits w64 (nat_abs (to_z w32 (of_z w32 index)))
+pub index_cast : (index : ℤ) → SFits w32 index → lt_z index (pos 0) ≡ false →
+    T (non_neg (to_z w32 (of_z w32 index))) × Fits w64 (nat_abs (to_z w32 (of_z w32 index)))
 index_cast index f above = simp to_z-of_z (omega (signed, range f))
 
 -- ---- who is served
@@ -76,7 +78,8 @@ module _ (nx ny : ℤ) (indices bests : List ℤ) (diagonal : ℤ) (asked : Bool
         inside = λ n h. inside_of blocks (index_at indices n) (each_fails (λ k. is_stray (pos blocks) (index_at indices k)) entries n four.0 h);
         room_is = λ t. enough blocks t (neither_first short (not alike) five.0);
         five_each = eqb-true (length bests) (numbers_per_best * entries) (not-false alike (neither_second short (not alike) five.0));
-        tame = λ n h. not-false (fits_i16 (x_at bests n) && fits_i16 (y_at bests n)) (each_fails (λ k. is_wild (x_at bests k) (y_at bests k)) entries n seven.0 h);
+        tame = λ n h. not-false (fits_i16 (x_at bests n) && fits_i16 (y_at bests n))
+            (each_fails (λ k. is_wild (x_at bests k) (y_at bests k)) entries n seven.0 h);
       }
     where
       enough : (blocks : ℕ) → asked ≡ true → (asked && ltb room (2 * blocks)) ≡ false → 2 * blocks ≤ room

@@ -1,5 +1,7 @@
 // Finishing: the bests of evaluation are stored as vectors, and as output words where these are asked
 // for. The entry takes any numbers, and refuses by 01's table before it writes.
+#![tactic(auto)]
+
 ghost use Rattle.std.specs.Prelude.{◌≡◌, true, ◌+◌, ◌*◌, ◌≤◌, length};
 ghost use Rattle.limits.specs.Sizes.{numbers_per_best};
 ghost use Rattle.score.specs.Score.{output_word, packed_score, score_fits};

@@ -1,5 +1,7 @@
 // A record's five numbers: its best, and how many of the reference's samples at the vector answered
 // were never there. Only the reference is asked: what the source lacks is told by the record's offsets.
+#![tactic(auto)]
+
 ghost use Rattle.std.specs.Prelude.{◌≡◌};
 ghost use Rattle.best.specs.Fair.{Fair};
 ghost use Rattle.five_numbers.specs.Five.{luma_absent, chroma_absent, absent_at, number_of, five_of};
@@ -11,13 +13,13 @@ use records::Record;
 
 // How many samples lie outside the data. A block that isn't bad was compared with nothing, and has no
 // such number: not even 0.
-#[derive(Drop)]
+#[derive(Clone, Copy)]
 pub enum Absences {
     Counted(i32),
     NotCompared,
 }
 
-#[derive(Drop)]
+#[derive(Clone, Copy)]
 pub struct Five {
     pub best: Best,
     pub outside: Absences,

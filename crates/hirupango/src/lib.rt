@@ -1,4 +1,6 @@
-// What a host in C calls: thin functions over the proved entries. include/hirupango.h declares them.
+// What a host calls: thin functions over the proved entries. hirupango_c exports them to C, and include/hirupango.h declares them.
+#![tactic(auto)]
+
 ghost use Rattle.std.specs.Prelude.{◌≡◌, length};
 ghost use Rattle.score.specs.Score.{score_answer};
 ghost use Rattle.score.specs.Diagonal.{diagonal_answer};
@@ -18,8 +20,7 @@ use level_places::SuperFrame;
 use planning::Planned;
 
 // ---- one number
-#[unsafe(no_mangle)]
-pub extern "C" fn hirupango_packed_score(
+pub fn hirupango_packed_score(
     x: i32,
     y: i32,
     sad: i32,
@@ -33,24 +34,21 @@ pub extern "C" fn hirupango_packed_score(
     answer_bytes::give(2, score::packed_score(x, y, sad, diagonal, average), out)
 }
 
-#[unsafe(no_mangle)]
-pub extern "C" fn hirupango_diagonal(width: i32, height: i32, pel: i32, out: &mut [u8]) -> u32
+pub fn hirupango_diagonal(width: i32, height: i32, pel: i32, out: &mut [u8]) -> u32
     ensures number { result ≡ word_number 2 (diagonal_answer width height pel) (length out.old) }
     ensures bytes { out.new ≡ word_bytes (diagonal_answer width height pel) out.old }
 {
     answer_bytes::give(2, score::diagonal(width, height, pel), out)
 }
 
-#[unsafe(no_mangle)]
-pub extern "C" fn hirupango_slots(search_param: i32, out: &mut [u8]) -> u32
+pub fn hirupango_slots(search_param: i32, out: &mut [u8]) -> u32
     ensures number { result ≡ word_number 1 (slots_answer search_param) (length out.old) }
     ensures bytes { out.new ≡ word_bytes (slots_answer search_param) out.old }
 {
     answer_bytes::give(1, answer_bytes::slots_answer(search_param), out)
 }
 
-#[unsafe(no_mangle)]
-pub extern "C" fn hirupango_block_cost(
+pub fn hirupango_block_cost(
     measure: i32,
     width: i32,
     height: i32,
@@ -67,8 +65,7 @@ pub extern "C" fn hirupango_block_cost(
 }
 
 // ---- a level
-#[unsafe(no_mangle)]
-pub extern "C" fn hirupango_level(
+pub fn hirupango_level(
     frame: SuperFrame,
     luma: &[u8],
     u: &[u8],
@@ -85,8 +82,7 @@ pub extern "C" fn hirupango_level(
 }
 
 // ---- the pass
-#[unsafe(no_mangle)]
-pub extern "C" fn hirupango_serpentine_order(nx: i32, ny: i32, order: &mut [i32]) -> u32
+pub fn hirupango_serpentine_order(nx: i32, ny: i32, order: &mut [i32]) -> u32
     ensures number { result ≡ order_refusal nx ny (length order.old) }
     ensures filled { order.new ≡ order_after nx ny order.old }
 {
@@ -94,8 +90,7 @@ pub extern "C" fn hirupango_serpentine_order(nx: i32, ny: i32, order: &mut [i32]
 }
 
 // On 0 slots and diagonal are what hirupango_slots and hirupango_diagonal give.
-#[unsafe(no_mangle)]
-pub extern "C" fn hirupango_plan(
+pub fn hirupango_plan(
     settings: Settings,
     order: &[i32],
     vectors: &[i32],
@@ -116,8 +111,7 @@ pub extern "C" fn hirupango_plan(
     number
 }
 
-#[unsafe(no_mangle)]
-pub extern "C" fn hirupango_evaluate(
+pub fn hirupango_evaluate(
     request: Request,
     records: &[i32],
     luma: &[u8],
@@ -144,8 +138,7 @@ pub extern "C" fn hirupango_evaluate(
     )
 }
 
-#[unsafe(no_mangle)]
-pub extern "C" fn hirupango_finish(
+pub fn hirupango_finish(
     nx: i32,
     ny: i32,
     indices: &[i32],

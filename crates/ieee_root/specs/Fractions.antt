@@ -1,6 +1,7 @@
 -- Comparing fractions by whole numbers: what the proofs about a root's neighbours need, over plain numbers. Assumes nothing.
 use Rattle.std.specs.Prelude.{◌≡◌, Bool, false, not, ℕ, ◌+◌, ◌-◌, ◌*◌, ◌^◌, ◌≤◌, ◌<◌, T, Float}
-use Rattle.std.proofs.Common.{sym, ap, subst, ◌∙◌, lt_of_not-le, mul-le-mul_right, le_of_mul-le-mul_right, mul-pos, mul_assoc, lt_of_lt_of_le, arith, pow_pos, pow-add, pow_mono, shl_lt}
+use Rattle.std.proofs.Common.{sym, ap, subst, ◌∙◌, lt_of_not-le, mul-le-mul_right, le_of_mul-le-mul_right, mul-pos, mul_assoc, lt_of_lt_of_le, arith}
+use Rattle.std.proofs.Common.{pow_pos, pow-add, pow_mono, shl_lt}
 use Rattle.std.specs.Float.{nan, inf, fin, binary64}
 use Rattle.std.specs.Float.Ieee.{round}
 use Rattle.std.specs.Float.Ieee.Digits.{back}

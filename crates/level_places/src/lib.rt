@@ -1,5 +1,7 @@
 // The levels of a super frame: how large a plane is at a level, where it starts in the raw plane that it is
 // cut from, and the three planes of a level.
+#![tactic(auto)]
+
 ghost use Rattle.std.specs.Prelude.{◌≡◌, ◌≤◌};
 ghost use Rattle.whole.specs.Interval.{Within};
 ghost use Rattle.level_places.specs.Levels.{turns_of, size_after, plane_size, finest_rows, level_rows, reduced_rows, level_offset, from_source, level_pel, cut_at, place_of, planes_of};
@@ -10,7 +12,7 @@ use planes::{Planes, Sides};
 
 // Laid out as C lays them out: a host hands a super frame over by value.
 #[repr(C)]
-#[derive(Drop)]
+#[derive(Clone, Copy)]
 pub struct Pitches {
     pub luma: i32,
     pub u: i32,
@@ -18,7 +20,7 @@ pub struct Pitches {
 }
 
 #[repr(C)]
-#[derive(Drop)]
+#[derive(Clone, Copy)]
 pub struct SuperFrame {
     pub frame: Sides,
     pub shift: Sides,

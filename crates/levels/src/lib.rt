@@ -1,5 +1,7 @@
 // Asking for a level of a super frame: the refusals in their order, and then its three planes, as places or as
 // numbers for a host. Of the bytes the lengths alone are looked at.
+#![tactic(auto)]
+
 ghost use Rattle.std.specs.Prelude.{◌≡◌, ◌+◌, ◌≤◌, ◌++◌, length, drop};
 ghost use Rattle.std.proofs.Math.Seq.{paste};
 ghost use Rattle.levels.specs.Refusals.{pitches_hold, raw_pitches_hold, holds2, has_sides, all_have_sides, lengths_kept, level_answer, level_number};
@@ -10,7 +12,7 @@ use level_places::{Pitches, SuperFrame};
 use plane::Place;
 use planes::{Planes, Sides};
 
-#[derive(Drop)]
+#[derive(Clone, Copy)]
 pub enum Levelled {
     Cut(Planes),
     Refused(u32),

@@ -1,4 +1,5 @@
 // The numbers that are accepted, one test for each kind, which several entries ask; and how many numbers a record and a best take.
+#![tactic(auto)]
 
 ghost use Rattle.std.specs.Prelude.{◌≡◌, ◌≤◌};
 ghost use Rattle.whole.specs.Interval.{Within};

@@ -63,4 +63,5 @@ word_undoes z rest f = ap (to_z w32) (mod-eq_of_lt (below z) ∙ sym (joined_is 
 -- every word that is read is one of 32 bits
 pub word_fits : (bytes : List ℕ) (at : ℕ) → SFits w32 (word_at bytes at)
 unfolding word_at
-word_fits bytes at = wrapped_fits w32 (pos (get_or bytes at 0 + 256 * get_or bytes (at + 1) 0 + 65536 * get_or bytes (at + 2) 0 + 16777216 * get_or bytes (at + 3) 0))
+word_fits bytes at = wrapped_fits w32
+    (pos (get_or bytes at 0 + 256 * get_or bytes (at + 1) 0 + 65536 * get_or bytes (at + 2) 0 + 16777216 * get_or bytes (at + 3) 0))

@@ -1,4 +1,5 @@
 // A word as four bytes, the lowest first: written, and read, one or as many as there is room for.
+#![tactic(auto)]
 
 ghost use Rattle.std.specs.Prelude.{◌≡◌, ◌++◌, ◌+◌, ◌*◌, ◌<◌, ◌≤◌, length, drop};
 ghost use Rattle.whole.specs.Numbers.{mod_z};

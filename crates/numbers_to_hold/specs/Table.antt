@@ -145,13 +145,14 @@ numbers_to_hold =
 
 -- ---- the theorem, of these, of the refusals that the paper states as numbers, and of 02's levels, absent samples and counts
 pub all_hold : Every (numbers_to_hold ++ refusals ++ of_levels ++ of_absences ++ of_counts)
-unfolding numbers_to_hold refusals of_levels of_absences of_counts packed_pair packed_record record_fits record_words numbers walk each row sum sum_z hadamard_at
-    tile_sum diagonal_answer diagonal_of root_of score_answer packed_score excess_of place_of window_of subpel_of planning.refusal_of planning.holds1 planning.holds2
-    holds3 planning.axis_holds chroma_holds planes_hold planning.vector_fits planning.entry_holds all_fit turn_at block_at slots_at step_of step_with quiet_step
-    quiet_record bad_step bad_record filled_with settled_at spot_of chroma_place negative_of axis_of shape_of evaluation.refusal_of evaluation.holds1 evaluation.holds2
-    evaluation.reference_holds evaluation.references_hold any_upto is_wide is_searched is_kept record_at record_of words_from finish_answer position_refusal
-    block_refusal order_refusal plan_of is_plan_file trailer_holds trailer_of head_of tally words_upto head_text line_text head_answer line_answer decimal digits
-    digits_by word_at bytes_of cost_number slots_answer levels.level_answer levels.refusal_of levels.holds2 levels.raw_pitches_hold levels.pitches_hold
-    levels.all_have_sides levels.has_sides levels.lengths_kept places.size_after places.whole_rows places.finest_rows places.level_rows places.reduced_rows
-    places.cut_at places.place_of places.planes_of number_of absent_at luma_absent plane_absent chroma_absent absent_in absence read_at vector_offset
+unfolding numbers_to_hold refusals of_levels of_absences of_counts packed_pair packed_record record_fits record_words numbers walk each row sum sum_z
+    hadamard_at tile_sum diagonal_answer diagonal_of root_of score_answer packed_score excess_of place_of window_of subpel_of planning.refusal_of
+    planning.holds1 planning.holds2 holds3 planning.axis_holds chroma_holds planes_hold planning.vector_fits planning.entry_holds all_fit turn_at block_at
+    slots_at step_of step_with quiet_step quiet_record bad_step bad_record filled_with settled_at spot_of chroma_place negative_of axis_of shape_of
+    evaluation.refusal_of evaluation.holds1 evaluation.holds2 evaluation.reference_holds evaluation.references_hold any_upto is_wide is_searched is_kept
+    record_at record_of words_from finish_answer position_refusal block_refusal order_refusal plan_of is_plan_file trailer_holds trailer_of head_of tally
+    words_upto head_text line_text head_answer line_answer decimal digits digits_by word_at bytes_of cost_number slots_answer levels.level_answer
+    levels.refusal_of levels.holds2 levels.raw_pitches_hold levels.pitches_hold levels.all_have_sides levels.has_sides levels.lengths_kept
+    places.size_after places.whole_rows places.finest_rows places.level_rows places.reduced_rows places.cut_at places.place_of places.planes_of number_of
+    absent_at luma_absent plane_absent chroma_absent absent_in absence read_at vector_offset
 all_hold = every_of (numbers_to_hold ++ refusals ++ of_levels ++ of_absences ++ of_counts) refl

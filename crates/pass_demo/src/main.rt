@@ -1,6 +1,8 @@
 // The whole pass on a small frame pair that is made here, shown as text: what each block was given,
 // what was found, and where its samples came from. Anything on standard input asks for the plan
 // alone, as a plan file of form 1.
+#![tactic(auto)]
+
 ghost use Rattle.std.specs.Prelude.{◌<◌};
 
 use block::{Level, Search, Settings, Weights};

@@ -1,9 +1,8 @@
 -- Laws of the fold over the order: one turn of either pass. Assumes nothing.
-use Rattle.std.specs.Prelude.{◌≡◌, Bool, true, false, ◌&&◌, ℤ, pos, nat_abs, length, get_or}
-use Rattle.std.proofs.Math.Path.{refl, ap, subst}
-use Rattle.std.proofs.Common.{sym, ◌∙◌, mul-le-mul, length-drop}
+use Rattle.std.specs.Prelude.{◌≡◌, Bool, ℤ, pos, nat_abs, length, get_or}
+use Rattle.std.proofs.Math.Path.{refl, ap}
+use Rattle.std.proofs.Common.{◌∙◌, mul-le-mul, length-drop}
 use mathlib.Core.List.{List, [], ◌∷◌, ◌++◌}
-use Rattle.std.proofs.Math.Logic.{⊎_elim}
 use Prim.Native.Nat.{ℕ, zero, suc, ◌+◌, ◌*◌, ◌<◌, ◌≤◌}
 use Rattle.std.proofs.Math.Numerals.{add-one}
 use native.Mathlib.Omega.{arith}
@@ -11,7 +10,7 @@ use Rattle.std.proofs.Math.ListN.{set, drop, length-append}
 use Rattle.std.proofs.Math.Seq.{paste}
 use Rattle.limits.specs.Sizes.{words_per_record}
 use Rattle.whole.specs.Lists.{paste_next, set_next}
-use Rattle.whole.specs.Signed.{signed, abs_is, lt_or_ge}
+use Rattle.whole.specs.Signed.{signed, abs_is}
 use Rattle.records.specs.declared.Words.{Words}
 use Rattle.records.specs.Packing.{record_fits, record_words}
 use Rattle.slots.specs.declared.Slots.{Slots}
@@ -21,7 +20,7 @@ use Rattle.block.specs.declared.Block.{Block}
 use Rattle.block.specs.declared.Step.{Step}
 use Rattle.block.specs.Steps.{step_of}
 use Rattle.passes.specs.declared.Turn.{Turn}
-use Rattle.passes.specs.Fold.{word_list, index_at, block_at, turn_at, slots_at, turn_of, all_fit, words_upto, indices_upto}
+use Rattle.passes.specs.Fold.{word_list, index_at, block_at, turn_at, slots_at, turn_of, words_upto, indices_upto}
 use Rattle.passes.specs.Asked.{Listed}
 
 -- ---- a turn's stages
@@ -42,16 +41,6 @@ module _ (s : Settings) (order vectors : List ℤ) where
   indices_long zero = refl
   indices_long (suc i) = length-append (indices_upto s order vectors i) (pos (turn_of s order vectors i).index ∷ []) ∙ omega (arith, indices_long i)
 
-  -- a record that does not fit is not mended by later ones
-  pub misfit_stays : (i n : ℕ) → i ≤ n → all_fit s order vectors i ≡ false → all_fit s order vectors n ≡ false
-  unfolding all_fit
-  misfit_stays i zero h e = let z : i ≡ 0 = omega arith in subst (λ (k : ℕ). all_fit s order vectors k ≡ false) z e
-  misfit_stays i (suc n) h e =
-      ⊎_elim
-      (λ l. ap (λ (b : Bool). b && (turn_of s order vectors n).fits) (misfit_stays i n (omega arith) e))
-      (λ l. let z : i ≡ suc n = omega arith in subst (λ (k : ℕ). all_fit s order vectors k ≡ false) z e)
-      (lt_or_ge i (suc n))
-
 -- ---- one turn of either pass: t are the slots before block i, r is what the turn answered
 pub record Turned (s : Settings) (order vectors : List ℤ) (i : ℕ) (t : Slots) (r : Turn) : Type 0 where
   pub here : t ≡ slots_at s order vectors i
@@ -64,14 +53,6 @@ module _ {s : Settings} {order vectors : List ℤ} {i : ℕ} {t : Slots} {r : Tu
   pub slots_next : r.slots ≡ slots_at s order vectors (i + 1)
   unfolding slots_at
   slots_next = rw add-one (ap (λ (x : Turn). x.slots) turn_is)
-
-  pub fit_next : all_fit s order vectors i ≡ true → r.fits ≡ true → all_fit s order vectors (i + 1) ≡ true
-  unfolding all_fit
-  fit_next a f = rw add-one (rw a (sym (ap (λ (x : Turn). x.fits) turn_is) ∙ f))
-
-  pub misfit_at : (n : ℕ) → i < n → all_fit s order vectors i ≡ true → r.fits ≡ false → all_fit s order vectors n ≡ false
-  unfolding all_fit
-  misfit_at n l a f = misfit_stays s order vectors (suc i) n l (rw a (sym (ap (λ (x : Turn). x.fits) turn_is) ∙ f))
 
   pub words_next : (old : List ℤ) {d : List ℤ} → d ≡ words_upto s order vectors i ++ drop (words_per_record * i) old →
       paste d (words_per_record * i) (word_list r.words) words_per_record ≡ words_upto s order vectors (i + 1) ++ drop (words_per_record * (i + 1)) old

@@ -1,4 +1,6 @@
 // Planning's two passes over the order: the first asks whether every record fits, the second writes.
+#![tactic(auto)]
+
 ghost use Rattle.std.specs.Prelude.{◌≡◌, ◌++◌, ◌+◌, ◌*◌, ◌≤◌, length, drop};
 ghost use Rattle.std.proofs.Math.Seq.{paste};
 ghost use Rattle.limits.specs.Sizes.{words_per_record};
@@ -11,7 +13,7 @@ use records::Words;
 use slots::Slots;
 
 // What one block of the order adds, and the slots that it hands to the next.
-#[derive(Drop)]
+#[derive(Clone, Copy)]
 pub struct Turn {
     pub index: usize,
     pub fits: bool,

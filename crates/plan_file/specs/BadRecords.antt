@@ -1,5 +1,5 @@
 -- 02, Three, of every file and of every answer: the two counts of the header add up to the file's BAD records. Assumes nothing.
-use Rattle.std.specs.Prelude.{◌≡◌, List, ℕ, ℤ, nat_abs, ◌+ℤ◌}
+use Rattle.std.specs.Prelude.{◌≡◌, List, ℕ, nat_abs, ◌+ℤ◌}
 use Rattle.std.proofs.Math.Path.{ap}
 use Rattle.std.proofs.Common.{subst}
 use Rattle.std.proofs.Math.IntN.{pos}

@@ -12,7 +12,6 @@ use Rattle.record_slice.specs.RecordSlice.{words_from, record_at}
 use Rattle.plan_file.specs.PlanFile.{trailer_of, trailer_holds, is_plan_file, tally, head_of, plan_of}
 
 abbrev pub as_bytes : List ℤ → List ℕ
-unfolding bytes_of
 as_bytes [] = []
 as_bytes (word ∷ words) = bytes_of word ++ as_bytes words
 
@@ -27,5 +26,6 @@ abbrev pub listed_head : Head
 listed_head = record { count = pos 1; searched = pos 0; kept = pos 0; width = pos 8; height = pos 8; pel = pos 2; slots = pos 10 }
 
 pub listing_accepted : plan_of listed ≡ plan.Accepted listed_head
-unfolding plan_of is_plan_file trailer_holds trailer_of head_of any_upto is_wide is_searched is_kept tally record_at words_from record_of words_upto word_at bytes_of
+unfolding plan_of is_plan_file trailer_holds trailer_of head_of any_upto is_wide is_searched is_kept tally record_at words_from record_of words_upto
+    word_at bytes_of
 listing_accepted = refl

@@ -1,4 +1,6 @@
 // A plan file, form 1: its trailer, its records, whether it is accepted. Any bytes are taken, and refused by 01's table.
+#![tactic(auto)]
+
 ghost use Rattle.std.specs.Prelude.{◌≡◌, true, ◌+◌, ◌*◌, ◌/◌, ◌≤◌, ◌<◌, nat_abs, length, take};
 ghost use Rattle.limits.specs.Limits.{same as same_number};
 ghost use Rattle.limits.specs.Sizes.{words_per_record, bytes_per_record};
@@ -9,7 +11,7 @@ use records::Record;
 
 const RECORD: i64 = limits::BYTES_PER_RECORD as i64;
 
-#[derive(Drop)]
+#[derive(Clone, Copy)]
 pub struct Trailer {
     pub back: i32,
     pub count: i32,
@@ -21,7 +23,7 @@ pub struct Trailer {
     pub form: i32,
 }
 
-#[derive(Drop)]
+#[derive(Clone, Copy)]
 pub struct Head {
     pub count: i32,
     pub searched: i32,
@@ -33,13 +35,13 @@ pub struct Head {
 }
 
 // Of a file's BAD records: how many windows hold a candidate, and how many are empty.
-#[derive(Drop)]
+#[derive(Clone, Copy)]
 struct Counts {
     searched: usize,
     kept: usize,
 }
 
-#[derive(Drop)]
+#[derive(Clone, Copy)]
 pub enum Plan {
     Accepted(Head),
     Refused(u32),
@@ -96,6 +98,7 @@ fn trailer_holds(t: Trailer, bytes: usize) -> bool
         & whole::within(form, 1, 1)
 }
 
+#[tactic(auto, using(crate::proofs::Lengths::too_short, crate::proofs::Lengths::too_long))]
 pub fn is_plan_file(file: &[u8]) -> bool
     ensures { result ≡ is_plan_file file.now }
 {

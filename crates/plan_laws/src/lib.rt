@@ -1,1 +1,2 @@
 // Theorems alone, about the records that planning makes: see specs/.
+#![tactic(auto)]

@@ -67,7 +67,8 @@ module _ (file line : List ℕ) where
 
   pub head_given : is_plan_file file ≡ true →
       let number = text_number (wide_file file) (head_text (head_of file)) (length line) in
-      Gives (head_answer file (length line)) (head_line file line) (answered number (head_text (head_of file))) (line_after number (head_text (head_of file)) line)
+      Gives (head_answer file (length line)) (head_line file line) (answered number (head_text (head_of file)))
+      (line_after number (head_text (head_of file)) line)
   unfolding head_answer head_line
   head_given e = record { answer_is = rw e; line_is = rw e }
 

@@ -1,4 +1,6 @@
 // The lines of a plan file's report, as text in a lent line. Any file and any number are taken, and refused by 01's table.
+#![tactic(auto)]
+
 ghost use Rattle.std.specs.Prelude.{◌≡◌, ◌++◌, ◌+◌, ◌≤◌, length};
 ghost use Rattle.report_text.specs.Putting.{Puts};
 ghost use Rattle.plan_lines.specs.Parts.{front_text, windows_text, back_text};

@@ -1,5 +1,7 @@
 // The report of the plan file on standard input, or `refused 8` or `refused 7`. One byte more than a
 // file may have is read, so that a longer one is seen to be too long.
+#![tactic(auto)]
+
 ghost use Rattle.std.specs.Prelude.{◌≡◌, ◌≤◌, ◌<◌, nat_abs, length};
 ghost use Rattle.plan_file.specs.PlanFile.{trailer_of};
 ghost use Rattle.plan_report.specs.Accepted.{Accepted, head_length, line_length};

@@ -1,5 +1,5 @@
 -- Laws of averages: the sum of a block is its SAD against zeros, and the areas of 01's sizes are powers of two. Assumes nothing.
-use Rattle.std.specs.Prelude.{◌≡◌, refl, List, ℕ, ◌+◌, ◌-◌, ◌*◌, ◌/◌, ◌^◌, ◌≤◌, ◌<◌, replicate}
+use Rattle.std.specs.Prelude.{◌≡◌, refl, List, ℕ, ◌+◌, ◌*◌, ◌/◌, ◌^◌, ◌≤◌, ◌<◌, replicate}
 use Rattle.std.proofs.Common.{ap, ◌∙◌, ⊎_elim, div-lt_iff_lt-mul, mul-le-mul, arith}
 use Rattle.std.proofs.Math.Nat.{one-le-pow}
 use Rattle.whole.specs.Signed.{lt_or_ge}

@@ -1,5 +1,5 @@
 -- Laws of Samples: what a read is from the front of the data on and before it, what a gathered array holds, and that both tell of a block. Assumes nothing.
-use Rattle.std.specs.Prelude.{◌≡◌, refl, Bool, List, ℕ, zero, suc, ◌+◌, ◌-◌, ◌*◌, ◌/◌, ◌%◌, ◌≤◌, ◌<◌, ltb, ℤ, negsuc, ◌+ℤ◌, nat_abs, get_or, length, set, take, drop, replicate}
+use Rattle.std.specs.Prelude.{◌≡◌, refl, Bool, List, ℕ, zero, suc, ◌+◌, ◌*◌, ◌/◌, ◌%◌, ◌≤◌, ◌<◌, ltb, ℤ, negsuc, ◌+ℤ◌, get_or, length, set, replicate}
 use Rattle.std.proofs.Common.{sym, ap, ◌∙◌, ⊎_elim, mul-le-mul, add-one, length-set, get_or-set_same, get_or-set_other, lt-ltb, le-ltb}
 use Rattle.std.proofs.Math.Bool.{true, false, cond}
 use native.Mathlib.Omega.{arith}
@@ -7,14 +7,13 @@ use Rattle.std.proofs.Math.Arith.{digits_lt, digits_div, digits_mod}
 use Rattle.std.proofs.Math.IntN.{pos}
 use Rattle.std.proofs.lemmas.List.{length-replicate, get_or-replicate, set-get_or}
 use Rattle.std.proofs.Math.ListN.{get_or-eq_default}
-use Rattle.std.specs.Int.Signed.{le_z}
-use Rattle.whole.specs.Signed.{signed, lt_or_ge}
+use Rattle.whole.specs.Signed.{lt_or_ge}
 use Rattle.distance.specs.Distance.{Block, block_of, cost_of}
 use Rattle.records.specs.declared.Offset.{Offset}
 use Rattle.records.specs.declared.Offset.TheVariants.{At, Absent}
 use Rattle.distance.specs.Laws.{Agree, Bytes}
-use Rattle.distance.specs.Views.{tail_block, cost_same}
-use Rattle.plane.specs.Samples.{read_at, weight, sample_at, placed_at, placed_from, nth, overlaid, source_at, gathered}
+use Rattle.distance.proofs.Views.{cost_same}
+use Rattle.plane.specs.Samples.{read_at, weight, sample_at, placed_from, nth, overlaid, source_at, gathered}
 
 -- ---- reads. From the front on a sample is the list's own, which counts 0 past its end
 pub sample_from_front : (s : List ℕ) (n : ℕ) → sample_at s (pos n) ≡ get_or s n 0
@@ -30,6 +29,10 @@ unfolding sample_at read_at weight
 sample_before s n = refl
 
 -- bytes are read as bytes, wherever they are read
+either_byte : {m n : ℕ} (t : Bool) → m < 256 → n < 256 → cond t m n < 256
+either_byte true k l = k
+either_byte false k l = l
+
 module _ (s : List ℕ) (bytes : (n : ℕ) → get_or s n 0 < 256) where
   pub sample_byte : (at : ℤ) → sample_at s at < 256
   sample_byte (pos n) = rw (sample_from_front s n) (bytes n)
@@ -40,21 +43,16 @@ module _ (s : List ℕ) (bytes : (n : ℕ) → get_or s n 0 < 256) where
   placed_byte (At at) pitch y x = sample_byte (at +ℤ pos (y * pitch + x))
   placed_byte Absent pitch y x = omega arith
 
+  -- by the cases of both origins, and not by the law above
   pub source_byte : (pitch : ℕ) (full overlay : Offset) (w h b : ℕ) → source_at s pitch full overlay w h b < 256
-  unfolding source_at
-  source_byte pitch full (At at) w h b =
-      either (ltb b (overlaid w h)) (sample_byte (at +ℤ pos ((b / (w / 2)) * pitch + b % (w / 2)))) (placed_byte full pitch (b / w) (b % w))
-    where
-      either : {m n : ℕ} (t : Bool) → m < 256 → n < 256 → cond t m n < 256
-      either true k l = k
-      either false k l = l
-  source_byte pitch full Absent w h b = placed_byte full pitch (b / w) (b % w)
-
--- a block whose first sample is not before the data is one of the slice from there on, as `&s[at..]` lends it
-pub block_in_place : (s : List ℕ) (at : ℤ) (pitch : ℕ) → le_z (pos 0) at ≡ true → (y x : ℕ) →
-    block_of (take (length s - nat_abs at) (drop (nat_abs at) s)) pitch y x ≡ placed_at s at pitch y x
-block_in_place s (pos n) pitch e y x = tail_block s n pitch y x ∙ sym (sample_from_front s (n + (y * pitch + x)))
-block_in_place s (negsuc n) pitch e y x = absurd (omega signed)
+  unfolding source_at placed_from
+  source_byte pitch (At full) (At at) w h b =
+      either_byte (ltb b (overlaid w h)) (sample_byte (at +ℤ pos ((b / (w / 2)) * pitch + b % (w / 2))))
+      (sample_byte (full +ℤ pos ((b / w) * pitch + b % w)))
+  source_byte pitch Absent (At at) w h b =
+      either_byte (ltb b (overlaid w h)) (sample_byte (at +ℤ pos ((b / (w / 2)) * pitch + b % (w / 2)))) (omega arith)
+  source_byte pitch (At full) Absent w h b = sample_byte (full +ℤ pos ((b / w) * pitch + b % w))
+  source_byte pitch Absent Absent w h b = omega arith
 
 -- ---- what a gathered array holds
 pub gathered_none : (f : ℕ → ℕ) → gathered 0 f ≡ replicate 256 0
@@ -126,9 +124,3 @@ module _ (measure : Bool) (w h : ℕ) (a : Block) where
   cost_gathered block k l out e =
       ap (λ (s : List ℕ). cost_of measure w h a (block_of s w)) e
       ∙ cost_same w h a a (block_of (gathered (h * w) (nth w block)) w) block (λ y x m n. refl) (gathered_block w h block k l) measure
-
-  pub cost_in_place : (s : List ℕ) (at : ℤ) (pitch : ℕ) → le_z (pos 0) at ≡ true →
-      cost_of measure w h a (block_of (take (length s - nat_abs at) (drop (nat_abs at) s)) pitch) ≡ cost_of measure w h a (placed_at s at pitch)
-  cost_in_place s at pitch e =
-      cost_same w h a a (block_of (take (length s - nat_abs at) (drop (nat_abs at) s)) pitch) (placed_at s at pitch) (λ y x m n. refl)
-      (λ y x m n. block_in_place s at pitch e y x) measure

@@ -1,5 +1,7 @@
 // Where a plane's samples stand, what is read there, and the blocks that are gathered from there.
 // A plane's bytes are a lent slice, and its place is a struct beside it.
+#![tactic(auto)]
+
 ghost use Rattle.std.specs.Prelude.{◌≡◌, true, ◌+◌, ◌*◌, ◌≤◌, ◌<◌, pos, ◌+ℤ◌, nat_abs, length};
 ghost use Rattle.std.specs.Int.Signed.{shr_z};
 ghost use Rattle.whole.specs.Numbers.{mod_z};
@@ -13,7 +15,7 @@ use records::Offset;
 
 // Laid out as C lays it out: a host hands it over by value.
 #[repr(C)]
-#[derive(Drop)]
+#[derive(Clone, Copy)]
 pub struct Place {
     pub base: usize,
     pub pitch: i32,
@@ -24,7 +26,7 @@ pub struct Place {
 
 // What was found at an offset: the byte there, or that the place is outside the data. A byte of 0 is
 // black; no byte is not.
-#[derive(Drop)]
+#[derive(Clone, Copy)]
 pub enum Read {
     Inside(u8),
     Outside,

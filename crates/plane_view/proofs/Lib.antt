@@ -1,5 +1,1 @@
-pub mod Parts
-pub mod Answers
-pub mod Making
-pub mod Above
-pub mod Offsets
+pub mod Examples

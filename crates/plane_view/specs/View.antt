@@ -1,11 +1,10 @@
 -- 01, "Port order and what changes shape": "A plane is a view: its bytes, base, pitch, sides and pel in one struct that refers to them; few functions
--- take it." What is told of a plane's bytes and place, what a cost asks of its callers, and an example by computation.
-use Rattle.std.specs.Prelude.{◌≡◌, refl, Bool, List, [], ◌∷◌, ℕ, ◌*◌, ◌≤◌, ◌<◌, ℤ, pos, negsuc, nat_abs, length}
+-- take it." What is told of a plane's bytes and place, and what a cost asks of its callers.
+use Rattle.std.specs.Prelude.{Bool, List, ℕ, ◌*◌, ◌≤◌, ◌<◌, ℤ, pos, nat_abs, length}
 use Rattle.distance.specs.Distance.{Block, cost_of}
 use Rattle.plane.specs.declared.Place.{Place}
 use Rattle.plane.specs.Places.{subpel_of, Placed, Near}
 use Rattle.plane.specs.declared.Read.{Read}
-use Rattle.plane.specs.declared.Read.TheVariants.{Inside, Outside}
 use Rattle.plane.specs.Samples.{read_at, placed_at}
 
 -- what is read of a plane at a place: the byte at the place's offset, or that there is none
@@ -31,15 +30,3 @@ pub record Costed (place : Place) (w h : ℕ) (block : List ℕ) (at : ℤ) : Ty
   pub placed : Placed place
   pub packed : PackedBlock w h block
   pub near : Near at
-
--- of two bytes in a row from base 0 on, (1,0) is the second, and (-1,0) is no byte
-abbrev row : Place
-row = record { base = 0; pitch = pos 2; width = pos 2; height = pos 1; pel = pos 1 }
-
-pub second : place_read (7 ∷ 9 ∷ []) row (pos 1) (pos 0) ≡ Inside 9
-unfolding subpel_of read_at
-second = refl
-
-pub none : place_read (7 ∷ 9 ∷ []) row (negsuc 0) (pos 0) ≡ Outside
-unfolding subpel_of read_at
-none = refl

@@ -1,6 +1,8 @@
 // A plane as one thing: its bytes, and where they stand (base, pitch, sides and pel), in a struct that
 // refers to the bytes. Few functions take one, and each leaves its work to a function of plain
 // parameters. Who has a plane's parts calls the last five, and needs no view of his own.
+#![tactic(auto)]
+
 ghost use Rattle.std.specs.Prelude.{◌≡◌, length};
 ghost use Rattle.distance.specs.Distance.{block_of};
 ghost use Rattle.plane.specs.Places.{keeps_length, pel1_of, subpel_of, Located};
@@ -8,7 +10,7 @@ ghost use Rattle.plane_view.specs.View.{place_read, place_cost, Costed};
 
 use plane::{Place, Read};
 
-#[derive(Drop)]
+#[derive(Clone, Copy)]
 struct PlaneView<'a> {
     pub bytes: &'a [u8],
     pub place: Place,

@@ -1,4 +1,6 @@
 // A frame's three planes, and what 01's refusals 2 and 3 ask of them: planning asks it of the source, evaluating of the source and of the reference.
+#![tactic(auto)]
+
 ghost use Rattle.std.specs.Prelude.{◌≡◌, length};
 ghost use Rattle.planes.specs.Planes.{chroma_holds, planes_hold, holds3};
 
@@ -6,14 +8,14 @@ use plane::Place;
 
 // One number along each axis. Laid out as C lays it out: a host hands it over by value.
 #[repr(C)]
-#[derive(Drop)]
+#[derive(Clone, Copy)]
 pub struct Sides {
     pub x: i32,
     pub y: i32,
 }
 
 #[repr(C)]
-#[derive(Drop)]
+#[derive(Clone, Copy)]
 pub struct Planes {
     pub luma: Place,
     pub u: Place,

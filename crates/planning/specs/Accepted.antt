@@ -1,5 +1,6 @@
 -- What passing the tests says: the refusals leave all that the two passes ask. Assumes nothing.
-use Rattle.std.specs.Prelude.{◌≡◌, refl, Bool, true, ◌&&◌, ◌||◌, List, ℕ, zero, suc, ◌+◌, ◌*◌, ◌≤◌, ◌<◌, eqb, leb, ℤ, pos, negsuc, nat_abs, ◌+ℤ◌, ◌-ℤ◌, ◌*ℤ◌, length, get_or, ◌≤ℤ◌, ◌<ℤ◌}
+use Rattle.std.specs.Prelude.{◌≡◌, refl, Bool, true, ◌&&◌, ◌||◌, List, ℕ, zero, suc, ◌+◌, ◌*◌, ◌≤◌, ◌<◌, eqb, leb, ℤ, pos, negsuc, nat_abs, ◌+ℤ◌}
+use Rattle.std.specs.Prelude.{◌-ℤ◌, ◌*ℤ◌, length, get_or, ◌≤ℤ◌, ◌<ℤ◌}
 use Rattle.std.proofs.Common.{sym, ◌∙◌, ⊎_elim, mul-le-mul, mul_comm, arith, leb-true, eqb-true}
 use Rattle.std.proofs.Math.Path.{ap}
 use Rattle.std.proofs.Math.Bool.{cond}
@@ -11,7 +12,6 @@ use Rattle.whole.specs.Signed.{signed, abs_is}
 use Rattle.whole.specs.Truth.{left_of, right_of, either_of, four_of, five_of, six_of}
 use Rattle.whole.specs.Interval.{Within}
 use Rattle.limits.specs.Limits.{same, is_block, is_grid_side, is_step, is_frame_side, is_pel, are_shifts}
-use Rattle.limits.specs.Refusals.{first}
 use Rattle.limits.specs.Refused.{each_passes, let_through}
 use Rattle.score.specs.declared.Answer.{Answer}
 use Rattle.score.specs.declared.Answer.TheVariants.{Is}

@@ -1,4 +1,6 @@
 // Planning: the refusals in the table's order, and then the two passes over the order.
+#![tactic(auto)]
+
 ghost use Rattle.std.specs.Prelude.{◌≡◌, ◌+◌, ◌*◌, ◌≤◌, length};
 ghost use Rattle.planning.specs.Refusals.{block_count, holds1, axis_holds, sides_hold, holds2, vector_fits, vectors_fit, entry_holds, order_holds, has_room, refusal_of};
 ghost use Rattle.planning.specs.Planned.{made_of, plan_answer, plan_records, plan_indices};
@@ -10,13 +12,13 @@ use planes::Sides;
 use score::Answer;
 
 // On 0: how many costs a block has at most, and the frame's diagonal.
-#[derive(Drop)]
+#[derive(Clone, Copy)]
 pub struct Made {
     pub slots: i32,
     pub diagonal: i32,
 }
 
-#[derive(Drop)]
+#[derive(Clone, Copy)]
 pub enum Planned {
     Done(Made),
     Refused(u32),

@@ -1,4 +1,6 @@
 // Five numbers stored one behind the other: a record's five, and the five of a plane's place.
+#![tactic(auto)]
+
 ghost use Rattle.std.specs.Prelude.{◌≡◌, [], ◌∷◌, ◌+◌, ◌≤◌, length};
 ghost use Rattle.std.proofs.Math.Seq.{paste};
 

@@ -1,4 +1,6 @@
 // Records as they stand in a lent slice, 12 words each, and refusal 7 asked of all of them.
+#![tactic(auto)]
+
 ghost use Rattle.std.specs.Prelude.{◌≡◌, true, ◌+◌, ◌*◌, ◌≤◌, length};
 ghost use Rattle.limits.specs.Sizes.{words_per_record};
 ghost use Rattle.records.specs.Packing.{pairs_fit};

@@ -1,10 +1,9 @@
--- 01, "Numbers to hold on to": its lines about pairs, last words and lambda settings, each by computation.
+-- 01, "Numbers to hold on to": its lines about pairs and last words, each by computation. proofs/Settings has its line about lambda settings.
 use Rattle.std.specs.Prelude.{◌≡◌, refl, ℤ, pos, negsuc}
 use Rattle.records.specs.declared.Offset.TheVariants.{Absent}
 use Rattle.records.specs.declared.Pair.{Pair}
 use Rattle.records.specs.declared.Record.{Record}
 use Rattle.records.specs.declared.PackedPair.TheVariants as pair_answers
-use Rattle.records.specs.Lambda.{quarter_of, third_of}
 use Rattle.records.specs.Packing.{packed_pair, pair_number, record_fits, record_words, packed_record, record_number}
 
 -- "pair (1,-1) is -65535; 32767 fits, 32768 is 6"
@@ -56,16 +55,3 @@ lambda_least_word = refl
 pub lambda_over : record_number (packed_record (listed (pos 268435456) (pos 3))) ≡ 6
 unfolding packed_record record_fits
 lambda_over = refl
-
--- "lambda setting -13: -4; negative block -1. Setting -1: -1, then 0"
-pub setting_minus_13 : quarter_of (negsuc 12) ≡ negsuc 3
-setting_minus_13 = refl
-
-pub setting_minus_13_negative : third_of (quarter_of (negsuc 12)) ≡ negsuc 0
-setting_minus_13_negative = refl
-
-pub setting_minus_1 : quarter_of (negsuc 0) ≡ negsuc 0
-setting_minus_1 = refl
-
-pub setting_minus_1_negative : third_of (quarter_of (negsuc 0)) ≡ pos 0
-setting_minus_1_negative = refl

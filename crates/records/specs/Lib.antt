@@ -3,6 +3,5 @@ pub mod Packing
 pub mod Unpacking
 pub mod Parts
 pub mod Alike
-pub mod Rounding
 pub mod RoundTrip
 pub mod Examples

@@ -1,7 +1,7 @@
 -- Packing and unpacking undo each other. Assumes nothing.
 -- `pack_then_unpack`: a record that was packed is read back from its words. `unpack_then_pack`: any 12 words are written again from the record that
 -- they hold, exactly where the lambda in the last of them fits; every other part of what is unpacked fits always.
-use Rattle.std.specs.Prelude.{◌≡◌, refl, Bool, true, false, ◌&&◌, cond, ℕ, ◌+◌, ◌*◌, ◌<◌, ℤ, pos, negsuc, ◌+ℤ◌, ◌*ℤ◌}
+use Rattle.std.specs.Prelude.{◌≡◌, refl, Bool, true, false, ◌&&◌, cond, ℕ, ◌<◌, ℤ, pos, negsuc, ◌+ℤ◌, ◌*ℤ◌}
 use Rattle.std.proofs.Common.{sym, ap, ◌∙◌, arith, lit<, SFits, to_z}
 use Rattle.std.specs.Int.Signed.{lt_z, le_z, shr_z}
 use Rattle.std.specs.Int.{w16, w32}

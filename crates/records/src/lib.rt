@@ -1,5 +1,6 @@
 // A record's 12 words, and what they hold. An absent offset is a case of its own. Only here, in a
 // word, is it a number.
+#![tactic(auto)]
 
 ghost use Rattle.std.specs.Prelude.{◌≡◌};
 ghost use Rattle.records.specs.Lambda.{quarter_of, third_of};
@@ -8,20 +9,20 @@ ghost use Rattle.records.specs.Parts.{offset_words, pair_words, joined_words, of
 ghost use Rattle.records.specs.Unpacking.{pair_of, offset_of, record_of};
 
 // Where a sample is, or that there is none.
-#[derive(Drop)]
+#[derive(Clone, Copy)]
 pub enum Offset {
     At(i32),
     Absent,
 }
 
 // Two numbers that share a word.
-#[derive(Drop)]
+#[derive(Clone, Copy)]
 pub struct Pair {
     pub first: i32,
     pub second: i32,
 }
 
-#[derive(Drop)]
+#[derive(Clone, Copy)]
 pub struct Record {
     pub full: Offset,
     pub overlay: Offset,
@@ -39,7 +40,7 @@ pub struct Record {
 }
 
 // A record's 12 words, in their order.
-#[derive(Drop)]
+#[derive(Clone, Copy)]
 pub struct Words {
     pub full: i32,
     pub overlay: i32,
@@ -57,7 +58,7 @@ pub struct Words {
 
 // A record and its words are put together from parts: the offsets, the pairs, and the rest. So whoever
 // reads them, here or from a slice, has no function of twelve reads, whose walk the prover is slow at.
-#[derive(Drop)]
+#[derive(Clone, Copy)]
 pub struct OffsetWords {
     pub full: i32,
     pub overlay: i32,
@@ -66,7 +67,7 @@ pub struct OffsetWords {
     pub average: i32,
 }
 
-#[derive(Drop)]
+#[derive(Clone, Copy)]
 pub struct PairWords {
     pub pos: i32,
     pub cpos: i32,
@@ -75,7 +76,7 @@ pub struct PairWords {
     pub window_y: i32,
 }
 
-#[derive(Drop)]
+#[derive(Clone, Copy)]
 pub struct Offsets {
     pub full: Offset,
     pub overlay: Offset,
@@ -84,7 +85,7 @@ pub struct Offsets {
     pub average: Offset,
 }
 
-#[derive(Drop)]
+#[derive(Clone, Copy)]
 pub struct Pairs {
     pub pos: Pair,
     pub cpos: Pair,
@@ -93,13 +94,13 @@ pub struct Pairs {
     pub window_y: Pair,
 }
 
-#[derive(Drop)]
+#[derive(Clone, Copy)]
 pub enum PackedPair {
     Fits(i32),
     Misfit,
 }
 
-#[derive(Drop)]
+#[derive(Clone, Copy)]
 pub enum Packed {
     Fits(Words),
     Misfit,

@@ -1,12 +1,14 @@
 // Replays the Rust's frozen answers, and compares: a line of a case begins with the word of its kind.
 // Names each line that differs; the last line counts.
+#![tactic(auto)]
+
 ghost use Rattle.std.specs.Prelude.{◌≤◌, length};
 
 use cases::Tally;
 
 // What was asked of the Rust, by the oracle's names. A line with another word is of no known kind, and
 // differs.
-#[derive(Drop)]
+#[derive(Clone, Copy)]
 enum Kind {
     Pair,
     Unpair,

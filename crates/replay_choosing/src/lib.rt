@@ -1,5 +1,7 @@
 // Choices that the Rust was asked about, compared. A case's inputs are pel, shift, pnew and radius, a record's 12 words, its luma
 // and its chroma table, which is not scaled yet, and the average; its answers are x, y, SAD and the average.
+#![tactic(auto)]
+
 ghost use Rattle.std.specs.Prelude.{◌≡◌, true, ◌≤◌, ◌<◌};
 ghost use Rattle.choosing.specs.Bounds.{Small, Ranged, Served};
 ghost use Rattle.cases.specs.Places.{Sized};

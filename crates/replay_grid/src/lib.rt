@@ -2,6 +2,8 @@
 // case's first two inputs are the grid's sides. A finishing goes on with the diagonal, whether output is
 // asked for, how many entries there are, their indices and their bests; its answers are the vectors of the
 // grid and, where it is asked for, the output. All were 0 before.
+#![tactic(auto)]
+
 ghost use Rattle.std.specs.Prelude.{◌≡◌, true, ◌+◌, ◌*◌, ◌<◌, ◌≤◌, length};
 ghost use Rattle.cases.specs.Places.{Sized};
 ghost use Rattle.replay_grid.specs.Sizes.{blocks_of, output_of, finish_inputs, finish_answers};

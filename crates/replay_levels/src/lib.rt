@@ -1,6 +1,8 @@
 // Sides and offsets of levels that the Rust was asked about, compared. A side's inputs are the size and the
 // level. An offset's are the frame's width and height, both chroma shifts, pel, level, pitch and whether the
 // source lies apart; its answers are the level's first byte in a luma plane and in a chroma plane.
+#![tactic(auto)]
+
 ghost use Rattle.std.specs.Prelude.{◌≡◌, true};
 ghost use Rattle.cases.specs.Places.{Sized};
 ghost use Rattle.level_places.specs.Asked.{Rowed};

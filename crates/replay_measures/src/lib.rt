@@ -1,6 +1,8 @@
 // Costs of two blocks, scores and roots that the Rust was asked about, compared; costs and scores
 // through the functions that a host calls. A cost's inputs are the measure, the sides and the samples of
 // both blocks, row by row; a score's the vector, SAD, diagonal and average.
+#![tactic(auto)]
+
 ghost use Rattle.std.specs.Prelude.{◌≡◌, true, ◌+◌, ◌*◌, ◌≤◌};
 ghost use Rattle.cases.specs.Places.{Sized};
 ghost use Rattle.replay_measures.specs.Sizes.{samples_of};

@@ -4,6 +4,8 @@
 // goes on with how many bytes there are and the bytes; its answers are 1 and the byte at subpel, or 0
 // where there is none. An absence has a block's inputs; its answer is how many of the block's samples
 // lie outside the bytes. Offsets and samples are asked of a view.
+#![tactic(auto)]
+
 ghost use Rattle.std.specs.Prelude.{◌≡◌, true, ◌⊎◌, ◌+◌, ◌*◌, ◌≤◌};
 ghost use Rattle.cases.specs.Places.{Sized};
 ghost use Rattle.plane.specs.Places.{Placed, Coordinate, Located};

@@ -1,5 +1,7 @@
 // Pairs and records that the Rust was asked about, compared: a pair to pack, a word to unpack, a
 // record's 18 values to pack, and 12 words to unpack. Packing answers 0 and what it made, or 6 alone.
+#![tactic(auto)]
+
 ghost use Rattle.std.specs.Prelude.{◌≡◌, true, ◌⊎◌};
 ghost use Rattle.cases.specs.Places.{Sized};
 

@@ -1,12 +1,13 @@
 // Text put into a line: bytes, whole numbers in decimal, a label with its number; and a whole text
 // laid into a line that a caller lends.
+#![tactic(auto)]
 
 ghost use Rattle.std.specs.Prelude.{◌≡◌, ◌++◌, ◌+◌, ◌≤◌, nat_abs, length};
 ghost use Rattle.report_text.specs.Text.{digits, decimal};
 ghost use Rattle.report_text.specs.Putting.{laid, Puts, lent_answer, lent_line};
 
 // How many bytes were written, or 01's number.
-#[derive(Drop)]
+#[derive(Clone, Copy)]
 pub enum Written {
     Length(usize),
     Refused(u32),

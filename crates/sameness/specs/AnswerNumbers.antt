@@ -76,11 +76,13 @@ lay_number text room = go (ltb room (length text))
     go false = refl
 
 -- ---- plan files: 8, then 7
-pub check_plan_file_number : (bytes : List ℕ) → file.plan_number (file.plan_of bytes) ≡ first (not (file.is_plan_file bytes)) 8 (first (file.wide_file bytes) 7 0)
+pub check_plan_file_number : (bytes : List ℕ) → file.plan_number (file.plan_of bytes)
+    ≡ first (not (file.is_plan_file bytes)) 8 (first (file.wide_file bytes) 7 0)
 unfolding file.plan_of
 check_plan_file_number bytes = go (file.is_plan_file bytes) (file.wide_file bytes)
   where
-    go : (t w : Bool) → file.plan_number (cond t (cond w (plan.Refused 7) (plan.Accepted (file.head_of bytes))) (plan.Refused 8)) ≡ first (not t) 8 (first w 7 0)
+    go : (t w : Bool) → file.plan_number (cond t (cond w (plan.Refused 7) (plan.Accepted (file.head_of bytes))) (plan.Refused 8))
+        ≡ first (not t) 8 (first w 7 0)
     go true true = refl
     go true false = refl
     go false w = refl

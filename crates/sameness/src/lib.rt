@@ -1,1 +1,2 @@
 // Theorems alone: that each entry's contract leaves no choice, in specs/Sameness.antt.
+#![tactic(auto)]

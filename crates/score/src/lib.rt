@@ -1,11 +1,12 @@
 // A frame's diagonal, and the two output words of a block.
+#![tactic(auto)]
 
 ghost use Rattle.std.specs.Prelude.{◌≡◌, true, ◌+◌, ◌*◌, ◌/◌, ◌≤◌, ◌<◌, nat_abs};
 ghost use Rattle.whole.specs.Numbers.{fits_i16};
 ghost use Rattle.score.specs.Diagonal.{frame_fits, diagonal_answer};
 ghost use Rattle.score.specs.Score.{output_word, scored, score_fits, score_answer};
 
-#[derive(Drop)]
+#[derive(Clone, Copy)]
 pub enum Answer {
     Is(i32),
     Refused,

@@ -10,7 +10,7 @@ use Rattle.std.specs.Int.Signed.{lt_z, le_z, non_neg}
 use Rattle.std.specs.Int.{Width, w32}
 use mir.Val.{Fits, SFits, bits, to_z, of_z}
 use borrow.Author.Tests.{ltb-false}
-use Rattle.whole.specs.Signed.{signed, abs_is, eq_is, holds, lt_z_false, le_z_false, lt_z_surely_not, le_z_surely_not }
+use Rattle.whole.specs.Signed.{signed, abs_is, eq_is, holds, lt_z_false, le_z_false, lt_z_surely_not, le_z_surely_not}
 use Rattle.serpentine.specs.Walk.{Sides}
 use Rattle.limits.specs.Refusals.{first}
 use Rattle.serpentine.specs.Answers.{by_sides, is_outside, answered, position_refusal, block_refusal, order_refusal}
@@ -163,7 +163,8 @@ module _ (nx ny : ℤ) where
       let i = inside_of (nx *ℤ ny) position (last_number (is_outside (nx *ℤ ny) position) 3 g.1) in
       (g.0, omega (arith, i.less, ap nat_abs (product_is g.0)), i.place_is)
 
-  pub serves_block : (position : ℤ) → Grid nx ny → nat_abs position < nat_abs nx * nat_abs ny → pos (nat_abs position) ≡ position → block_refusal nx ny position ≡ 0
+  pub serves_block : (position : ℤ) → Grid nx ny → nat_abs position < nat_abs nx * nat_abs ny → pos (nat_abs position) ≡ position →
+      block_refusal nx ny position ≡ 0
   unfolding block_refusal
   serves_block position g l e =
       let m = product_is g in

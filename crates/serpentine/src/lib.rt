@@ -1,24 +1,25 @@
 // The serpentine order of a grid's blocks: the position of a block, the block at a position, and
 // the whole order. Each entry takes any numbers, and refuses by 01's table.
+#![tactic(auto)]
 
 ghost use Rattle.std.specs.Prelude.{◌≡◌, ◌*◌, ◌<◌, ◌≤◌, length};
 ghost use Rattle.serpentine.specs.Walk.{Sides, at, block_at, position_at, filled};
 ghost use Rattle.serpentine.specs.Answers.{by_sides, is_outside, position_refusal, block_refusal, order_refusal, position_answer, block_answer, order_after};
 
 // A block of the grid, by its column and its row.
-#[derive(Drop)]
+#[derive(Clone, Copy)]
 pub struct Place {
     pub x: u32,
     pub y: u32,
 }
 
-#[derive(Drop)]
+#[derive(Clone, Copy)]
 pub enum Position {
     At(i32),
     Refused(u32),
 }
 
-#[derive(Drop)]
+#[derive(Clone, Copy)]
 pub enum Block {
     At(i32, i32),
     Refused(u32),

@@ -1,11 +1,13 @@
 // The two source slots: where the samples of a bad block lie, handed from one block to the next.
 // Nothing here clears a slot. What an earlier block left is what a later one reads.
+#![tactic(auto)]
+
 ghost use Rattle.std.specs.Prelude.{◌≡◌};
 ghost use Rattle.slots.specs.Slots.{no_source, at_start, luma_written, chroma_written, active_of, with_active, luma_in_active, chroma_in_active, inside_of, moved_of};
 
 use records::Offset;
 
-#[derive(Drop)]
+#[derive(Clone, Copy)]
 pub struct Source {
     pub full: Offset,
     pub half: Offset,
@@ -13,7 +15,7 @@ pub struct Source {
     pub v: Offset,
 }
 
-#[derive(Drop)]
+#[derive(Clone, Copy)]
 pub struct Slots {
     pub zero: Source,
     pub one: Source,

@@ -15,8 +15,9 @@ use Rattle.whole.specs.Signed.{lt_or_ge}
 use Rattle.whole.specs.Interval.{Within, within_either, within_shr}
 use Rattle.limits.specs.Limits.{shifted_by}
 use Rattle.distance.specs.Distance.{Block}
-use Rattle.distance.specs.Laws.{Agree, Bytes, cost_most}
-use Rattle.distance.specs.Views.{cost_same}
+use Rattle.distance.specs.Laws.{Agree, Bytes}
+use Rattle.distance.proofs.Laws.{cost_most}
+use Rattle.distance.proofs.Views.{cost_same}
 use Rattle.plane.specs.declared.Place.{Place}
 use Rattle.plane.specs.Places.{Near}
 use Rattle.plane.specs.Reads.{sample_byte}
@@ -312,5 +313,6 @@ costs_same measure w h a b samples place offsets zero e = refl
 costs_same measure w h a b samples place offsets (suc n) e =
     rw (
       costs_same measure w h a b samples place offsets n e,
-      cost_same w h a b (place_block samples place (get_or offsets n (pos 0))) (place_block samples place (get_or offsets n (pos 0))) e (λ i j l m. refl) measure,
+      cost_same w h a b (place_block samples place (get_or offsets n (pos 0))) (place_block samples place (get_or offsets n (pos 0)))
+          e (λ i j l m. refl) measure,
     )

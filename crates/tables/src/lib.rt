@@ -1,5 +1,7 @@
 // Where each slot of a block is read in a plane, and what it costs from there: the predictor's slot, and
 // then the window's, row by row. A slot's offset is a number, so that one plane's offsets serve another.
+#![tactic(auto)]
+
 ghost use Rattle.std.specs.Prelude.{◌≡◌, ◌≤◌, ◌<◌, pos};
 ghost use Rattle.whole.specs.Interval.{Within};
 ghost use Rattle.distance.specs.Distance.{block_of};
@@ -14,7 +16,7 @@ use plane::Place;
 
 // Where a plane's candidates stand: its place, the position of the zero vector, and the shift of a
 // vector's components.
-#[derive(Drop)]
+#[derive(Clone, Copy)]
 pub struct Reference {
     pub place: Place,
     pub x: i32,

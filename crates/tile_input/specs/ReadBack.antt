@@ -76,7 +76,8 @@ word_on begun (d ∷ w) c rest e b = go (is_blank d) e (λ f. word_on (begun ++ 
   where
     go : (t : Bool) → (not t && no_blank w) ≡ true →
         (no_blank w ≡ true → words_from (begun ++ (d ∷ [])) (w ++ (c ∷ rest)) ≡ ended (begun ++ (d ∷ []) ++ w) (words_from [] rest)) →
-        cond t (ended begun (words_from [] (w ++ (c ∷ rest)))) (words_from (begun ++ (d ∷ [])) (w ++ (c ∷ rest))) ≡ ended (begun ++ (d ∷ w)) (words_from [] rest)
+        cond t (ended begun (words_from [] (w ++ (c ∷ rest)))) (words_from (begun ++ (d ∷ [])) (w ++ (c ∷ rest)))
+        ≡ ended (begun ++ (d ∷ w)) (words_from [] rest)
     go true e on = unlike (cc)
     go false e on = rw (← append_assoc begun (d ∷ []) w) (on e)
 

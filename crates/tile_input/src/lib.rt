@@ -1,5 +1,7 @@
 // A tile of differences read from text: sixteen whole numbers from -255 to 255, with blanks between them. A number is
 // looked up by its place, each time from the front of the text, so that nothing is kept between two of them.
+#![tactic(auto)]
+
 ghost use Rattle.std.specs.Prelude.{◌≡◌, ◌+◌, ◌≤◌, length};
 ghost use Rattle.tile_input.specs.Input.{is_blank, is_digit, signed_by, number_at, row_from, tile_from, reading_of};
 ghost use Rattle.tile_input.specs.Parts.{is_begun, lengthened, grown, after, told};
@@ -7,7 +9,7 @@ ghost use Rattle.tile_input.specs.Parts.{is_begun, lengthened, grown, after, tol
 use distance::{Quad, Tile};
 
 // A word as far as it is read: none begun, a minus alone, digits (behind a minus, or not), or no number from -255 to 255.
-#[derive(Drop)]
+#[derive(Clone, Copy)]
 enum Word {
     Unbegun,
     Minus,
@@ -16,7 +18,7 @@ enum Word {
 }
 
 // What stands at a place of the text: a number, a word that is none, or no word.
-#[derive(Drop)]
+#[derive(Clone, Copy)]
 pub enum Number {
     Is(i16),
     Wrong,
@@ -24,7 +26,7 @@ pub enum Number {
 }
 
 // A tile, or why there is none: the word at a place is wrong, the text ends before a place, there are more words.
-#[derive(Drop)]
+#[derive(Clone, Copy)]
 pub enum Reading {
     Given(Tile),
     Wrong(usize),

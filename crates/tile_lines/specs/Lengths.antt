@@ -1,5 +1,5 @@
 -- How long the text of a number of 16 bits is, by itself and in its columns. Assumes nothing.
-use Rattle.std.specs.Prelude.{◌≡◌, ℕ, suc, ◌+◌, ◌-◌, ◌≤◌, ℤ, pos, negsuc, length}
+use Rattle.std.specs.Prelude.{◌≡◌, suc, ◌-◌, ◌≤◌, ℤ, pos, negsuc, length}
 use Rattle.std.proofs.Common.{arith, length-append, length-take-le, SFits}
 use Rattle.std.specs.Int.{w16}
 use Rattle.whole.specs.Signed.{range}

@@ -1,5 +1,7 @@
 // A tile's steps as text: the differences, the tile after its column step and after its row step,
 // row by row, and the sum.
+#![tactic(auto)]
+
 ghost use Rattle.std.specs.Prelude.{◌≡◌, ◌+◌, ◌≤◌, length};
 ghost use Rattle.distance.specs.Parts.{SmallRows};
 ghost use Rattle.report_text.specs.Putting.{Puts};

@@ -49,7 +49,8 @@ blank_first : (z : ℤ) → Within 255 255 z → entry_text z ≡ 32 ∷ tail z
 blank_first z h = let e : 7 - length (decimal z) ≡ suc (6 - length (decimal z)) = omega (arith, short z h) in rw e
 
 -- so a number may stand before another one
-next_read : (y z : ℤ) (rest : List ℕ) → Within 255 255 z → words_from [] (entry_text y ++ (entry_text z ++ rest)) ≡ decimal y ∷ words_from [] (entry_text z ++ rest)
+next_read : (y z : ℤ) (rest : List ℕ) → Within 255 255 z → words_from [] (entry_text y ++ (entry_text z ++ rest))
+    ≡ decimal y ∷ words_from [] (entry_text z ++ rest)
 next_read y z rest h = rw (blank_first z h) (entry_read y 32 (tail z ++ rest) refl)
 
 abbrev words_in : Quad → List (List ℕ) → List (List ℕ)

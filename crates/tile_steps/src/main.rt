@@ -1,5 +1,7 @@
 // Shows the steps of a tile that is given on standard input: sixteen numbers from -255 to 255. Anything else is refused by a
 // message on standard error, and then standard output stays empty.
+#![tactic(auto)]
+
 ghost use Rattle.distance.specs.Parts.{SmallRows};
 
 use distance::Tile;

@@ -1,7 +1,8 @@
 -- Wrapping: that exactly one number of a signed width is z but for a multiple of the width's power, and what the machine's shifts and masks leave.
 -- Each lemma once, for every width. Assumes nothing.
 use Rattle.std.specs.Prelude.{◌≡◌, refl, Bool, ◌⊎◌, ℕ, suc, ◌+◌, ◌-◌, ◌*◌, ◌/◌, ◌%◌, ◌^◌, ◌≤◌, ◌<◌, ℤ, pos, negsuc, ◌+ℤ◌, ◌*ℤ◌}
-use Rattle.std.proofs.Common.{sym, ap, ◌∙◌, ⊎_elim, mod-lt, add-mul, div-add-mod', mul-lt-mul_of_pos_right, lt_of_mul-lt-mul_right, mul-div_cancel, mul-le-mul_right, arith, le-ltb, to_z-of_z}
+use Rattle.std.proofs.Common.{sym, ap, ◌∙◌, ⊎_elim, mod-lt, add-mul, div-add-mod', mul-lt-mul_of_pos_right, lt_of_mul-lt-mul_right, mul-div_cancel}
+use Rattle.std.proofs.Common.{mul-le-mul_right, arith, le-ltb, to_z-of_z}
 use Rattle.std.proofs.Math.Nat.{mul-mod_left, one-le-pow}
 use Rattle.std.specs.Int.Bits.{bit_and}
 use Rattle.std.proofs.lemmas.Nat.{and_mask}

@@ -1,4 +1,5 @@
 // Whole numbers: wrapping at 32 bits, ranges, the lesser and the greater of two, one for a test that holds, the whole root.
+#![tactic(auto)]
 
 ghost use Rattle.std.specs.Prelude.{◌≡◌, cond, ◌+ℤ◌, ◌*ℤ◌, nat_abs};
 ghost use Rattle.std.specs.Int.{w32};

@@ -27,7 +27,8 @@ use Rattle.whole_pass.specs.Evaluates.{none_wide}
 -- a frame's side, among what planning asks of an axis
 frame_side : (count step side frame : ℤ) → axis_holds count step side frame ≡ true → is_frame_side frame ≡ true
 unfolding axis_holds
-frame_side count step side frame e = (four_of (is_grid_side count) (is_step side step) (is_frame_side frame) (le_z ((count -ℤ pos 1) *ℤ step +ℤ side) frame) e).2
+frame_side count step side frame e = (four_of (is_grid_side count) (is_step side step) (is_frame_side frame)
+    (le_z ((count -ℤ pos 1) *ℤ step +ℤ side) frame) e).2
 
 -- reference planes that evaluating takes: 2's test beside the source planes, and 3's
 pub record Referred (s : Settings) (reference : Planes) (luma u v : ℕ) : Type 0 where

@@ -39,7 +39,8 @@ use Rattle.evaluation.specs.declared.Request.{Request}
 use Rattle.evaluation.specs.Evaluated.{task_of, best_at, fifth_at, bests_upto}
 use Rattle.evaluation.specs.BestsLaws.{bests_long}
 use Rattle.evaluation.specs.Accepted.{ranged}
-use Rattle.finishing.specs.Finish.{refused1, refused2, is_stray, refused4, refused5, is_wild, refused7, finish_answer, finish_vectors, finish_output, written_upto}
+use Rattle.finishing.specs.Finish.{refused1, refused2, is_stray, refused4, refused5, is_wild, refused7, finish_answer, finish_vectors, finish_output}
+use Rattle.finishing.specs.Finish.{written_upto}
 use Rattle.finishing.specs.Finish as finish
 use Rattle.finishing.specs.Written.{written_alike}
 use Rattle.plan_laws.specs.ReadBack.{planned, record_read}

@@ -10,7 +10,8 @@ use Rattle.window.specs.Windows.{is_searched, is_wide, slots_of}
 use Rattle.record_slice.specs.RecordSlice.{record_at}
 use Rattle.plan_file.specs.PlanFile.{words_of}
 use Rattle.best.specs.declared.Task.{Task}
-use Rattle.best.specs.Searched.{Candidates, candidates}
+use Rattle.best.specs.Searched.{Candidates}
+use Rattle.best.proofs.SearchedLaws.{candidates}
 use Rattle.block.specs.declared.Settings.{Settings}
 use Rattle.passes.specs.Fold.{block_at, slots_at, words_upto}
 use Rattle.planning.specs.Refusals.{block_count, refusal_of}

@@ -19,7 +19,7 @@ use Rattle.evaluation.specs.declared.Request.{Request}
 use Rattle.evaluation.specs.Evaluated.{task_of, bests_upto, evaluate_answer, evaluate_bests}
 use Rattle.evaluation.specs.BestsLaws.{bests_long}
 use Rattle.finishing.specs.Finish.{finish_answer, finish_vectors, finish_output}
-use Rattle.finishing.specs.Finished.{tail_stays}
+use Rattle.finishing.proofs.Finished.{tail_stays}
 use Rattle.whole_pass.specs.Pass.{request_of, pass_vectors, pass_output}
 use Rattle.whole_pass.specs.AfterPlanning as planning
 use Rattle.whole_pass.specs.Evaluates.{record_count}
@@ -72,7 +72,8 @@ module _ (s : Settings) (measure : Bool) (pnew : ℤ) (reference : Planes) (orde
       kept_done _ _ bests evaluated
       ∙ ap (λ (w : List ℤ). bests_upto (task_of q) w luma u v referenceLuma referenceU referenceV (length w / words_per_record)
       ++ drop (numbers_per_best * (length w / words_per_record)) bests) records_are
-      ∙ ap (λ (k : ℕ). bests_upto (task_of q) (words_upto s order vectors n) luma u v referenceLuma referenceU referenceV k ++ drop (numbers_per_best * k) bests)
+      ∙ ap (λ (k : ℕ). bests_upto (task_of q) (words_upto s order vectors n) luma u v referenceLuma referenceU referenceV k
+      ++ drop (numbers_per_best * k) bests)
       (record_count s q order vectors n refl taken.fit)
 
   each_long : length each ≡ numbers_per_best * n

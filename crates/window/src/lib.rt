@@ -1,4 +1,6 @@
 // What a record says of its search: its two flags, whether its window holds a candidate, how wide it is, and how many slots a radius has.
+#![tactic(auto)]
+
 ghost use Rattle.std.specs.Prelude.{◌≡◌, true, pos};
 ghost use Rattle.whole.specs.Numbers.{lies_in};
 ghost use Rattle.window.specs.Windows.{bad_flag, half_flag, is_bad, is_negative, side_of, both_some, has_candidate, is_searched, is_kept, window_wide, is_wide, slots_of};

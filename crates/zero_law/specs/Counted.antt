@@ -9,7 +9,8 @@ use Rattle.window.specs.Windows.{is_bad}
 use Rattle.record_slice.specs.RecordSlice.{record_at}
 use Rattle.best.specs.declared.Task.{Task}
 use Rattle.five_numbers.specs.Five.{absent_at}
-use Rattle.five_numbers.specs.Counted.{RealAt, NoneRealAt, compared_of, fifth_bad, fifth_fine, count_none, count_all}
+use Rattle.five_numbers.specs.Counted.{RealAt, NoneRealAt, compared_of, fifth_bad, fifth_fine}
+use Rattle.five_numbers.proofs.Counted.{count_none, count_all}
 use Rattle.evaluation.specs.declared.Request.{Request}
 use Rattle.evaluation.specs.Evaluated.{task_of, evaluate_answer}
 use Rattle.evaluation.specs.Zero.{after, reads}

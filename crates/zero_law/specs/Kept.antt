@@ -9,7 +9,8 @@ use Rattle.record_slice.specs.RecordSlice.{record_at}
 use Rattle.choosing.specs.Choosing.{tripled_of}
 use Rattle.best.specs.declared.Task.{Task}
 use Rattle.best.specs.declared.Best.{Best}
-use Rattle.best.specs.Kept.{predictor_cost, kept_best}
+use Rattle.best.specs.Kept.{predictor_cost}
+use Rattle.best.proofs.Kept.{kept_best}
 use Rattle.evaluation.specs.declared.Request.{Request}
 use Rattle.evaluation.specs.Evaluated.{task_of, evaluate_answer}
 use Rattle.evaluation.specs.Zero.{after, reads}

@@ -1,6 +1,8 @@
 // Evaluating, with the third demand's last sentence in the contract, what the fifth number says, and
 // what a record has that the report counts as kept. A lent slice holds bytes whatever it holds, so that
 // the caller is asked for nothing: the laws are about the buffer that he gets back.
+#![tactic(auto)]
+
 ghost use Rattle.std.specs.Prelude.{◌≡◌, length};
 ghost use Rattle.evaluation.specs.Evaluated.{evaluate_answer, evaluate_bests};
 ghost use Rattle.zero_law.specs.Knowing.{Known};

@@ -1,0 +1,4 @@
+pub mod VectorCosts
+pub mod Kept
+pub mod SearchedLaws
+pub mod Zero

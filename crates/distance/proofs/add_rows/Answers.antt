@@ -1,0 +1,10 @@
+-- Each sum fits. Assumes nothing.
+use Rattle.distance.proofs.Tiles.{quads_alike, a_is, b_is, c_is, d_is}
+use Rattle.whole.specs.Interval.{is_add}
+use Rattle.distance.proofs.add_rows.Goals as goal
+
+pub returns : goal.returns
+returns c =
+    let p = c.requires.0 in
+    let q = c.requires.1 in
+    quads_alike (is_add (a_is p) (a_is q) tt tt).same (is_add (b_is p) (b_is q) tt tt).same (is_add (c_is p) (c_is q) tt tt).same (is_add (d_is p) (d_is q) tt tt).same

@@ -1,0 +1,9 @@
+-- The invariant is an equation: the costs so far are the definition's, of as many slots.
+use Rattle.std.proofs.Common.{◌≡◌}
+use Rattle.distance.specs.Distance.{block_of}
+use Rattle.plane_view.specs.View.{place_cost}
+use Rattle.tables.specs.Tables.{costs_upto}
+use Rattle.tables.proofs.costs.Given as goal
+
+abbrev pub invariant-loop-n : goal.invariant-loop-n
+invariant-loop-n l = l.out ≡ costs_upto (place_cost l.measure l.w l.h (block_of l.block l.w) l.samples l.place) l.offsets l.n
