@@ -1,5 +1,6 @@
-/* The last motion pass of a frame-rate converter, proved. Link libhirupango.a (rt staticlib hirupango), for x86-64. Of the C
- * library it needs memcpy and memset alone.
+/* The last motion pass of a frame-rate converter, proved. Link libhirupango.a, for x86-64: tests/host/build leaves it in
+ * target/staticlib (`rt lib` in crates/hirupango_c builds it, as out/libhirupango_c.a). Of the C library it needs memcpy
+ * and memset alone.
  *
  * Every function takes every number and every lent slice, ends, and touches nothing else. It answers 0 where it is done,
  * or the lowest number that applies (hirupango_level: the first in its own order), and then leaves every lent buffer byte
