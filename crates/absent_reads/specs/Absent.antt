@@ -1,24 +1,22 @@
 -- 02, Two: "A sample read must say whether it was inside the data or absent", and how many samples of a block "lie outside the data". Definitions alone.
-use Rattle.std.specs.Prelude.{◌≡◌, List, ℕ, ◌+◌, ◌*◌, ◌<◌, ℤ, pos, ◌+ℤ◌, nat_abs}
+use Rattle.std.specs.Prelude.{◌≡◌, List, ℕ, ◌+◌, ◌*◌, ◌<◌, ℤ, pos, ◌+ℤ◌, nat_abs, None, Option, Some}
 use Rattle.distance.specs.Distance.{sum}
 use Rattle.plane.specs.declared.Place.{Place}
-use Rattle.plane.specs.declared.Read.{Read}
-use Rattle.plane.specs.declared.Read.TheVariants.{Inside, Outside}
 use Rattle.plane.specs.Samples.{read_at}
 
 -- what a read counts here: 1 where there was no sample, and 0 for any byte, black too
-unfoldable pub absence : Read → ℕ
-absence (Inside byte) = 0
-absence Outside = 1
+unfoldable pub absence : Option ℕ → ℕ
+absence (Some byte) = 0
+absence None = 1
 
 -- a read that found a byte
-pub record Real (read : Read) : Type 0 where
+pub record Real (read : Option ℕ) : Type 0 where
   pub byte : ℕ
-  pub is : read ≡ Inside byte
+  pub is : read ≡ Some byte
 
 -- ---- of a block
 -- what is read at row y and column x of the block whose first sample is at `at`, with rows that start `pitch` samples apart: plane's `placed_at` weighs it
-abbrev pub reads_from : List ℕ → ℤ → ℕ → ℕ → ℕ → Read
+abbrev pub reads_from : List ℕ → ℤ → ℕ → ℕ → ℕ → Option ℕ
 reads_from s at pitch y x = read_at s (at +ℤ pos (y * pitch + x))
 
 -- how many of its w x h samples are absent
@@ -34,4 +32,4 @@ abbrev pub AllReal : List ℕ → ℤ → ℕ → ℕ → ℕ → Type 0
 AllReal s at pitch w h = (y x : ℕ) → y < h → x < w → Real (reads_from s at pitch y x)
 
 abbrev pub NoneReal : List ℕ → ℤ → ℕ → ℕ → ℕ → Type 0
-NoneReal s at pitch w h = (y x : ℕ) → y < h → x < w → reads_from s at pitch y x ≡ Outside
+NoneReal s at pitch w h = (y x : ℕ) → y < h → x < w → reads_from s at pitch y x ≡ None

@@ -1,40 +1,38 @@
 -- What a count says: 0 that every sample was there, all that none was, and it is never more than all; and where it is 0 at a glance. Assumes nothing.
-use Rattle.std.specs.Prelude.{◌≡◌, refl, List, ◌↔◌, ℕ, zero, suc, ◌+◌, ◌*◌, ◌≤◌, ◌<◌, ℤ, pos, length, get_or}
+use Rattle.std.specs.Prelude.{◌≡◌, refl, List, ◌↔◌, ℕ, zero, suc, ◌+◌, ◌*◌, ◌≤◌, ◌<◌, ℤ, pos, length, get_or, None, Option, Some}
 use Rattle.std.proofs.Common.{ap, ◌∙◌, ⊎_elim, mul-le-mul_right, arith, lt-ltb}
 use Rattle.whole.specs.Signed.{lt_or_ge}
 use Rattle.distance.specs.Distance.{sum}
 use Rattle.distance.specs.Sums.{sum_suc, sum_below, sum_none, sum_part}
-use Rattle.plane.specs.declared.Read.{Read}
-use Rattle.plane.specs.declared.Read.TheVariants.{Inside, Outside}
 use Rattle.plane.specs.Samples.{read_at, weight}
 use Rattle.absent_reads.specs.Absent.{absence, Real, reads_from, absent_in, AllReal, NoneReal}
 
 -- ---- of one read
-absence_most : (r : Read) → absence r ≤ 1
+absence_most : (r : Option ℕ) → absence r ≤ 1
 unfolding absence
-absence_most (Inside byte) = omega arith
-absence_most Outside = omega arith
+absence_most (Some byte) = omega arith
+absence_most None = omega arith
 
-real_only : (r : Read) → absence r ≡ 0 → Real r
+real_only : (r : Option ℕ) → absence r ≡ 0 → Real r
 unfolding absence
-real_only (Inside byte) e = record { byte = byte; is = refl }
-real_only Outside e = absurd (omega arith)
+real_only (Some byte) e = record { byte = byte; is = refl }
+real_only None e = absurd (omega arith)
 
-outside_only : (r : Read) → absence r ≡ 1 → r ≡ Outside
+outside_only : (r : Option ℕ) → absence r ≡ 1 → r ≡ None
 unfolding absence
-outside_only (Inside byte) e = absurd (omega arith)
-outside_only Outside e = refl
+outside_only (Some byte) e = absurd (omega arith)
+outside_only None e = refl
 
-real_counts : (r : Read) → Real r → absence r ≡ 0
+real_counts : (r : Option ℕ) → Real r → absence r ≡ 0
 unfolding absence
 real_counts r k = ap absence k.is
 
-outside_counts : (r : Read) → r ≡ Outside → absence r ≡ 1
+outside_counts : (r : Option ℕ) → r ≡ None → absence r ≡ 1
 unfolding absence
 outside_counts r e = ap absence e
 
 -- a read that found a byte weighs it
-pub real_weighs : (r : Read) (k : Real r) → weight r ≡ k.byte
+pub real_weighs : (r : Option ℕ) (k : Real r) → weight r ≡ k.byte
 unfolding weight
 real_weighs r k = ap weight k.is
 

@@ -9,16 +9,14 @@ ghost use Rattle.plane.specs.Places.{Placed, Near};
 ghost use Rattle.absent_reads.specs.Absent.{absent_in, place_absent};
 ghost use Rattle.absent_reads.specs.Rows.{shared_by};
 
-use plane::Place;
+use distance::Rows;
+use plane_view::PlaneView;
 
 // A place, or the front of the data where it lies before them.
 fn from_front(at: i64) -> usize
     ensures { result ≡ P at }
 {
-    if at < 0 {
-        return 0;
-    }
-    at as usize
+    at.max(0) as usize
 }
 
 // How many of the w places from one on are in the data.
@@ -26,51 +24,48 @@ fn shared(samples: &[u8], at: i64, w: usize) -> usize
     requires { Within 562949953421312 562949953421312 at × (w ≤ 16) }
     ensures { result ≡ shared_by (length samples.now) at w }
 {
-    let first = from_front(at);
-    if samples.len() <= first {
-        return 0;
-    }
-    let end = from_front(at + w as i64);
-    if end < samples.len() {
-        return end - first;
-    }
-    samples.len() - first
+    let end = from_front(at + w as i64).min(samples.len());
+    end.saturating_sub(from_front(at))
 }
 
-fn absent_in(samples: &[u8], at: i64, pitch: usize, w: usize, h: usize) -> u32
-    requires near { Near at × (pitch ≤ 65536) }
+fn absent_in(samples: Rows, at: i64, w: usize, h: usize) -> u32
+    requires near { Near at × (samples.pitch ≤ 65536) }
     requires w_bound { (w ≤ 16) × (h ≤ 16) }
-    ensures { result ≡ absent_in samples.now at pitch w h }
+    ensures { result ≡ absent_in samples.entry.bytes.now at samples.entry.pitch w h }
 {
     let mut total: u32 = 0;
+    // Stays by number: y is the row, which says where the row begins.
     for y in 0..h {
-        total += (w - shared(samples, at + (y * pitch) as i64, w)) as u32;
+        total += (w - shared(samples.bytes, at + (y * samples.pitch) as i64, w)) as u32;
     }
     total
 }
 
 // Whether the block and a row more lie in the data, as most do: then there is nothing to count.
-fn lies_inside(samples: &[u8], at: i64, pitch: usize, w: usize, h: usize) -> bool
-    requires near { Near at × (pitch ≤ 65536) }
+fn lies_inside(samples: Rows, at: i64, w: usize, h: usize) -> bool
+    requires near { Near at × (samples.pitch ≤ 65536) }
     requires w_bound { (w ≤ 16) × (h ≤ 16) }
-    ensures { result ≡ true → absent_in samples.now at pitch w h ≡ 0 }
+    ensures { result ≡ true → absent_in samples.entry.bytes.now at samples.entry.pitch w h ≡ 0 }
 {
     if at < 0 {
         return false;
     }
-    at as usize + (h * pitch + w) <= samples.len()
+    at as usize + (h * samples.pitch + w) <= samples.bytes.len()
 }
 
 // The rows step by the plane's own pitch, as those that are compared do.
-pub fn absent(samples: &[u8], place: Place, at: i64, w: usize, h: usize) -> u32
-    requires placed { Placed place × Near at }
+pub fn absent(view: PlaneView, at: i64, w: usize, h: usize) -> u32
+    requires placed { Placed view.place × Near at }
     requires w_bound { (w ≤ 16) × (h ≤ 16) }
-    ensures { result ≡ place_absent samples.now place at w h }
+    ensures { result ≡ place_absent view.entry.bytes.now view.entry.place at w h }
 {
-    let pitch = place.pitch;
-    let step = pitch as usize;
-    if lies_inside(samples, at, step, w, h) {
-        return 0;
+    let samples = Rows {
+        bytes: view.bytes,
+        pitch: view.place.pitch as usize,
+    };
+    if lies_inside(samples, at, w, h) {
+        0
+    } else {
+        absent_in(samples, at, w, h)
     }
-    absent_in(samples, at, step, w, h)
 }

@@ -1,5 +1,5 @@
 -- What BlockCost says: the ranges that accepted numbers lie in, and each outcome. Assumes nothing.
-use Rattle.std.specs.Prelude.{◌≡◌, Bool, true, false, ◌&&◌, ◌||◌, List, ◌++◌, ℕ, suc, ◌+◌, ◌≤◌, ◌<◌, ℤ, pos, nat_abs, length, drop}
+use Rattle.std.specs.Prelude.{◌≡◌, Bool, true, false, cond, ltb, ◌&&◌, ◌||◌, List, ◌++◌, ℕ, suc, ◌≤◌, ◌<◌, ℤ, pos, nat_abs, length, drop}
 use Rattle.std.proofs.Math.Path.{sym}
 use Rattle.std.proofs.Common.{⊎_elim, arith}
 use borrow.Author.Tests.{lt-ltb, le-ltb}
@@ -109,3 +109,17 @@ module _ (measure width height : ℤ) (a : List ℕ) (pitch-a : ℤ) (b : List �
       pub outcome_0 : 4 ≤ length out → Outcome 0 (bytes_of (pos (block_cost measure width height a pitch-a b pitch-b)) ++ drop 4 out)
       unfolding cost_bytes
       outcome_0 room = record { number_is = sym (done room); bytes_are = rw (done room) }
+
+-- no number is over the table's last
+pub cost_small : (measure width height : ℤ) (a : List ℕ) (pitch-a : ℤ) (b : List ℕ) (pitch-b : ℤ) (room : ℕ) →
+    cost_number measure width height a pitch-a b pitch-b room ≤ 9
+unfolding cost_number
+cost_small measure width height a pitch-a b pitch-b room =
+    by (numbers_fit measure width height pitch-a pitch-b)
+    (is_held a (nat_abs pitch-a) (nat_abs width) (nat_abs height) && is_held b (nat_abs pitch-b) (nat_abs width) (nat_abs height)) (ltb room 4)
+  where
+    by : (t u v : Bool) → cond t (cond u (cond v 5 0) 3) 2 ≤ 9
+    by false u v = omega arith
+    by true false v = omega arith
+    by true true true = omega arith
+    by true true false = omega arith

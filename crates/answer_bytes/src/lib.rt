@@ -2,18 +2,21 @@
 #![tactic(auto)]
 
 ghost use Rattle.std.specs.Prelude.{◌≡◌, ◌≤◌, ◌<◌, length};
+ghost use Rattle.refusals.specs.Numbers.{outcome};
 ghost use Rattle.answer_bytes.specs.Word.{word_number, word_bytes};
 ghost use Rattle.answer_bytes.specs.Slots.{slots_answer};
 ghost use Rattle.answer_bytes.specs.BlockCost.{is_size, numbers_fit, is_held, cost_number, cost_bytes};
 
-use score::Answer;
+use distance::Rows;
+use refusals::Refusal;
 
 // What an entry answered, as four bytes. It refuses with the number given here.
-pub fn give(refused: u32, answer: Answer, out: &mut [u8]) -> u32
+// Stays with numbers: any number may be given to refuse with, and a `Refusal` would ask more of the caller.
+pub fn give(refused: u32, answer: Option<i32>, out: &mut [u8]) -> u32
     ensures number { result ≡ word_number refused answer (length out.old) }
     ensures bytes { out.new ≡ word_bytes answer out.old }
 {
-    let Answer::Is(word) = answer else {
+    let Some(word) = answer else {
         return refused;
     };
     if out.len() < 4 {
@@ -23,25 +26,21 @@ pub fn give(refused: u32, answer: Answer, out: &mut [u8]) -> u32
     0
 }
 
-pub fn slots_answer(search_param: i32) -> Answer
+#[tactic(auto, unfolding(crate::specs::Slots::slots_answer))]
+pub fn slots_answer(search_param: i32) -> Option<i32>
     ensures { result ≡ slots_answer search_param }
 {
-    if !whole::within(search_param, -3, 3) {
-        return Answer::Refused;
-    }
-    Answer::Is(window::slots_of(limits::radius_of(search_param)))
+    whole::within(search_param, -3, 3).then(|| window::slots_of(limits::radius_of(search_param)))
 }
 
 // ---- block cost
 fn is_size(width: i32, height: i32) -> bool
     ensures { result ≡ is_size width height }
 {
-    let by_16 = whole::within(height, 16, 16) | whole::within(height, 8, 8);
-    let by_8 = whole::within(height, 8, 8) | whole::within(height, 4, 4);
-    let by_4 = whole::within(height, 4, 4);
-    whole::within(width, 16, 16) & by_16
-        | whole::within(width, 8, 8) & by_8
-        | whole::within(width, 4, 4) & by_4
+    matches!(
+        (width, height),
+        (16, 16) | (16, 8) | (8, 8) | (8, 4) | (4, 4)
+    )
 }
 
 fn numbers_fit(measure: i32, width: i32, height: i32, a_pitch: i32, b_pitch: i32) -> bool
@@ -60,6 +59,8 @@ fn is_held(s: &[u8], pitch: usize, width: usize, height: usize) -> bool
     (height - 1) * pitch + width <= s.len()
 }
 
+// Stays with its parts apart: so a host gives them, and `hirupango_block_cost` hands them on.
+#[tactic(auto, using(crate::specs::BlockCostLaws::accepted))]
 pub fn block_cost(
     measure: i32,
     width: i32,
@@ -69,24 +70,26 @@ pub fn block_cost(
     b: &[u8],
     b_pitch: i32,
     out: &mut [u8],
-) -> u32
-    ensures number { result ≡ cost_number measure width height a.now a_pitch b.now b_pitch (length out.old) }
+) -> Result<(), Refusal>
+    ensures answer { result ≡ outcome (cost_number measure width height a.now a_pitch b.now b_pitch (length out.old)) }
     ensures bytes { out.new ≡ cost_bytes measure width height a.now a_pitch b.now b_pitch out.old }
 {
     if !numbers_fit(measure, width, height, a_pitch, b_pitch) {
-        return 2;
+        return Err(Refusal::Limit);
     }
     let w = width as usize;
     let h = height as usize;
     let p = a_pitch as usize;
     let q = b_pitch as usize;
     if !(is_held(a, p, w, h) & is_held(b, q, w, h)) {
-        return 3;
+        return Err(Refusal::PlaneLength);
     }
     if out.len() < 4 {
-        return 5;
+        return Err(Refusal::OutputLength);
     }
-    let value = distance::cost(0 < measure, w, h, a, p, b, q);
+    let one = Rows { bytes: a, pitch: p };
+    let other = Rows { bytes: b, pitch: q };
+    let value = distance::cost(0 < measure, w, h, one, other);
     little_endian::put_word(out, value as i32);
-    0
+    Ok(())
 }

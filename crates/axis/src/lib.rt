@@ -9,6 +9,7 @@ ghost use Rattle.axis.specs.Bounds.{Bounded};
 
 use records::Pair;
 
+// Stays without an invariant: the definitions of specs/ take an axis of any numbers, and what its functions ask (`Bounded`) is in their clauses.
 #[derive(Clone, Copy)]
 pub struct Axis {
     pub pel: i32,
@@ -23,30 +24,21 @@ fn least(axis: Axis) -> i32
     requires { Bounded axis }
     ensures { result ≡ least_of axis }
 {
-    let pel = axis.pel;
-    let origin = axis.origin;
-    0 - pel * origin
+    0 - axis.pel * axis.origin
 }
 
 fn end(axis: Axis) -> i32
     requires { Bounded axis }
     ensures { result ≡ end_of axis }
 {
-    let pel = axis.pel;
-    let frame = axis.frame;
-    let origin = axis.origin;
-    let side = axis.side;
-    pel * (frame - origin - side)
+    axis.pel * (axis.frame - axis.origin - axis.side)
 }
 
 fn margin(v: i32) -> i32
     requires { Within 32768 32767 v }
     ensures { result ≡ margin_of v }
 {
-    if v < 0 {
-        return v - 2;
-    }
-    v + 2
+    if v < 0 { v - 2 } else { v + 2 }
 }
 
 // How far v lies outside the limits; 0 inside.
@@ -55,20 +47,19 @@ fn excess_by(v: i32, min: i32, max: i32) -> i32
     ensures { result ≡ excess_by v min max }
 {
     if v < min {
-        return v - min;
+        v - min
+    } else if max <= v {
+        v - max + 1
+    } else {
+        0
     }
-    if max <= v {
-        return v - max + 1;
-    }
-    0
 }
 
 pub fn excess(axis: Axis) -> i32
     requires { Bounded axis }
     ensures { result ≡ excess_of axis }
 {
-    let predictor = axis.predictor;
-    let v = margin(predictor);
+    let v = margin(axis.predictor);
     let min = least(axis);
     let max = end(axis);
     excess_by(v, min, max)
@@ -79,30 +70,25 @@ pub fn place(axis: Axis, moves: bool) -> i32
     requires { Bounded axis }
     ensures { result ≡ place_of moves axis }
 {
-    let frame = axis.frame;
-    let origin = axis.origin;
-    let side = axis.side;
     if moves {
         let over = excess(axis);
-        return whole::lesser(whole::greater(origin - over, 0), frame - side);
+        whole::lesser(
+            whole::greater(axis.origin - over, 0),
+            axis.frame - axis.side,
+        )
+    } else {
+        axis.origin
     }
-    origin
 }
 
 pub fn window(axis: Axis, place: i32) -> Pair
     requires { Bounded axis × Within 16384 16384 place }
     ensures { result ≡ window_of axis place }
 {
-    let origin = axis.origin;
-    let predictor = axis.predictor;
-    let radius = axis.radius;
     let min = least(axis);
     let max = end(axis);
-    let d = origin - place;
-    let first = whole::greater(predictor - radius, min - whole::lesser(d, 0));
-    let second = whole::lesser(predictor + radius, max - whole::greater(d, 0) - 1);
-    Pair {
-        first: first,
-        second: second,
-    }
+    let d = axis.origin - place;
+    let first = whole::greater(axis.predictor - axis.radius, min - whole::lesser(d, 0));
+    let second = whole::lesser(axis.predictor + axis.radius, max - whole::greater(d, 0) - 1);
+    Pair { first, second }
 }

@@ -1,9 +1,8 @@
 -- One block's best, from its record and the planes: 01, "Evaluating and choosing". Definitions alone.
 -- Samples and costs are plane's and distance's, tables are tables', and the choice from them is choosing's.
-use Rattle.std.specs.Prelude.{Bool, cond, List, ℕ, ◌+◌, ◌*◌, ◌^◌, ℤ, pos, nat_abs, replicate}
+use Rattle.std.specs.Prelude.{Bool, cond, List, ℕ, ◌+◌, ◌*◌, ◌^◌, ℤ, pos, nat_abs, replicate, Option}
 use Rattle.std.specs.Int.Signed.{shr_z}
 use Rattle.limits.specs.Limits.{shifted_by}
-use Rattle.records.specs.declared.Offset.{Offset}
 use Rattle.records.specs.declared.Record.{Record}
 use Rattle.window.specs.Windows.{is_bad, is_negative}
 use Rattle.distance.specs.Distance.{Block}
@@ -79,7 +78,7 @@ module _ (task : Task) (given : Record) where
   chroma_offsets = table_of (pos 0) choice_of (vector_offset chroma_reference)
 
   -- of one chroma plane: its origin and place in the source, and its own place in the reference, "and steps by V's own pitch"
-  abbrev pub chroma_cost : Offset → Place → Place → List ℕ → List ℕ → ℤ → ℤ → ℕ
+  abbrev pub chroma_cost : Option ℤ → Place → Place → List ℕ → List ℕ → ℤ → ℤ → ℕ
   chroma_cost origin source own samples reference =
       vector_cost task.measure chroma_width chroma_height (placed_from samples origin (nat_abs source.pitch)) reference own chroma_reference
 
@@ -92,7 +91,7 @@ module _ (task : Task) (given : Record) where
   abbrev pub scale_of : ℕ
   scale_of = 4 ^ nat_abs task.shift
 
-  unfoldable pub plane_table : Offset → Place → Place → List ℕ → List ℕ → List ℕ
+  unfoldable pub plane_table : Option ℤ → Place → Place → List ℕ → List ℕ → List ℕ
   plane_table origin source own samples reference = table_of 0 choice_of (chroma_cost origin source own samples reference)
 
   unfoldable pub chroma_table : List ℕ → List ℕ → List ℕ → List ℕ → List ℕ

@@ -1,5 +1,5 @@
 -- What `Fair` leaves of a block's numbers, and how large its costs are. Assumes nothing.
-use Rattle.std.specs.Prelude.{◌≡◌, refl, Bool, true, false, cond, ◌&&◌, ◌||◌, List, ℕ, zero, suc, ◌+◌, ◌*◌, ◌/◌, ◌^◌, ◌≤◌, ◌<◌}
+use Rattle.std.specs.Prelude.{◌≡◌, refl, Bool, true, false, cond, ◌&&◌, ◌||◌, List, ℕ, zero, suc, ◌+◌, ◌*◌, ◌/◌, ◌^◌, ◌≤◌, ◌<◌, Option}
 use Rattle.std.specs.Prelude.{T, leb, ℤ, pos, negsuc, nat_abs, get_or}
 use Rattle.std.proofs.Common.{sym, ap, ◌∙◌, ⊎_elim, arith, leb→le, to_z, of_z}
 use Rattle.std.specs.Int.Signed.{lt_z, shr_z}
@@ -9,7 +9,6 @@ use Rattle.whole.specs.Signed.{signed, holds}
 use Rattle.whole.specs.Truth.{left_of, right_of, either_of, lies_low, lies_high, five_of}
 use Rattle.whole.specs.Interval.{Within, within_more, is_within, read_within, i16_within}
 use Rattle.limits.specs.Limits.{same, is_block}
-use Rattle.records.specs.declared.Offset.{Offset}
 use Rattle.records.specs.declared.Pair.{Pair}
 use Rattle.records.specs.declared.Record.{Record}
 use Rattle.records.specs.Packing.{pair_fits}
@@ -193,7 +192,7 @@ module _ {task : Task} {given : Record} (fair : Fair task given) where
   unfolding luma_table
   luma_most luma reference p q = table_most 130560 (choice_of task given) (luma_cost task given luma reference) (luma_cost_most luma reference p q)
 
-  pub plane_most : (origin : Offset) (source own : Place) (samples reference : List ℕ) →
+  pub plane_most : (origin : Option ℤ) (source own : Place) (samples reference : List ℕ) →
       ((n : ℕ) → get_or samples n 0 < 256) → ((n : ℕ) → get_or reference n 0 < 256) →
       Most 130560 (plane_table task given origin source own samples reference)
   unfolding plane_table

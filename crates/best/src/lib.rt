@@ -7,17 +7,23 @@ ghost use Rattle.limits.specs.Limits.{shifted_by};
 ghost use Rattle.window.specs.Windows.{is_bad};
 ghost use Rattle.plane.specs.Places.{Placed};
 ghost use Rattle.choosing.specs.Bounds.{Small};
-ghost use Rattle.tables.specs.Bounds.{Nearby};
+ghost use Rattle.tables.specs.Bounds.{Nearby, Most};
 ghost use Rattle.best.specs.Best.{searched_of, width_of, height_of, choice_of, luma_reference, luma_table, chroma_reference, chroma_offsets, plane_table, chroma_table, average_at, answered, best_of};
 ghost use Rattle.best.specs.Fair.{Fair};
 
 use choosing::Choice;
-use plane::Place;
-use planes::{Planes, Sides};
+use distance::Rows;
+use plane::{Packed, Place};
+use plane_view::PlaneView;
+use planes::{Planes, Samples, Sides};
 use records::{Offset, Record};
 use tables::Reference;
 
 // What all records share. The shift is the horizontal one.
+// Stays beside the record, also where both travel together: a struct of the two would be made anew for
+// each record, and taken apart wherever one of them is read.
+// Stays without an invariant: `Fair` is of both, and what `choice_of` and the references promise, they
+// promise of any.
 #[derive(Clone, Copy)]
 pub struct Task {
     pub measure: bool,
@@ -40,16 +46,13 @@ pub struct Best {
 fn choice_of(task: Task, given: Record) -> Choice
     ensures { result ≡ choice_of task given }
 {
-    let predictor = given.predictor;
-    let window_x = given.window_x;
-    let window_y = given.window_y;
     Choice {
-        x: predictor.first,
-        y: predictor.second,
-        least_x: window_x.first,
-        greatest_x: window_x.second,
-        least_y: window_y.first,
-        greatest_y: window_y.second,
+        x: given.predictor.first,
+        y: given.predictor.second,
+        least_x: given.window_x.first,
+        greatest_x: given.window_x.second,
+        least_y: given.window_y.first,
+        greatest_y: given.window_y.second,
         lambda: given.lambda,
         pnew: task.pnew,
         pel: task.pel,
@@ -68,28 +71,21 @@ fn searched(negative: bool, side: i32) -> usize
     requires { Within 0 16 side }
     ensures { result ≡ searched_of negative side }
 {
-    if negative {
-        return natural(side >> 1);
-    }
-    natural(side)
+    natural(if negative { side >> 1 } else { side })
 }
 
 pub fn width_of(task: Task, given: Record) -> usize
     requires { Fair task given }
     ensures { result ≡ width_of task given }
 {
-    let sides = task.block;
-    let side = sides.x;
-    searched(window::is_negative(given), side)
+    searched(window::is_negative(given), task.block.x)
 }
 
 pub fn height_of(task: Task, given: Record) -> usize
     requires { Fair task given }
     ensures { result ≡ height_of task given }
 {
-    let sides = task.block;
-    let side = sides.y;
-    searched(window::is_negative(given), side)
+    searched(window::is_negative(given), task.block.y)
 }
 
 pub fn chroma_side(side: i32, shift: i32) -> usize
@@ -110,59 +106,53 @@ fn scale_of(shift: i32) -> u32
 pub fn luma_reference(task: Task, given: Record) -> Reference
     ensures { result ≡ luma_reference task given }
 {
-    let planes = task.reference;
-    let place = planes.luma;
-    let pos = given.pos;
     Reference {
-        place: place,
-        x: pos.first,
-        y: pos.second,
+        place: task.reference.luma,
+        x: given.pos.first,
+        y: given.pos.second,
         shift: 0,
     }
 }
 
 fn luma_table(task: Task, given: Record, luma: &[u8], reference_luma: &[u8]) -> [u32; 50]
     requires { Fair task given × (is_bad given ≡ true) }
-    ensures { result ≡ luma_table task given luma.now reference_luma.now }
+    ensures value { result ≡ luma_table task given luma.now reference_luma.now }
+    ensures small { Small result }
 {
-    let measure = task.measure;
     let w = width_of(task, given);
     let h = height_of(task, given);
-    let sides = task.block;
-    let full_w = sides.x;
-    let full_h = sides.y;
-    let planes = task.source;
-    let place = planes.luma;
-    let pitch = place.pitch;
-    let full = given.full;
-    let overlay = given.overlay;
+    let source = Rows {
+        bytes: luma,
+        pitch: natural(task.source.luma.pitch),
+    };
     let block = plane::source_block(
-        luma,
-        natural(pitch),
-        full,
-        overlay,
-        natural(full_w),
-        natural(full_h),
+        source,
+        given.full,
+        given.overlay,
+        natural(task.block.x),
+        natural(task.block.y),
         h * w,
     );
     let reference = luma_reference(task, given);
     let choice = choice_of(task, given);
-    let offsets = tables::offsets(reference_luma, reference, choice);
-    let own = reference.place;
-    tables::costs(measure, w, h, &block, reference_luma, own, &offsets, choice)
+    let offsets = reference.offsets(reference_luma, choice);
+    let packed = Packed {
+        samples: &block,
+        w,
+        h,
+    };
+    let view = PlaneView::new(reference_luma, reference.place);
+    tables::costs(task.measure, packed, view, &offsets, choice)
 }
 
 // ---- chroma
 pub fn chroma_reference(task: Task, given: Record) -> Reference
     ensures { result ≡ chroma_reference task given }
 {
-    let planes = task.reference;
-    let place = planes.u;
-    let cpos = given.cpos;
     Reference {
-        place: place,
-        x: cpos.first,
-        y: cpos.second,
+        place: task.reference.u,
+        x: given.cpos.first,
+        y: given.cpos.second,
         shift: task.shift,
     }
 }
@@ -175,7 +165,7 @@ fn chroma_offsets(task: Task, given: Record, reference_u: &[u8]) -> [i64; 50]
 {
     let reference = chroma_reference(task, given);
     let choice = choice_of(task, given);
-    tables::offsets(reference_u, reference, choice)
+    reference.offsets(reference_u, choice)
 }
 
 // One chroma plane's table: its origin and place in the source, and its own place in the reference.
@@ -192,45 +182,55 @@ fn plane_table(
     requires fair { Fair task given × (is_bad given ≡ true) }
     requires placed { Placed source × Placed own }
     requires offsets_value { (offsets.now ≡ chroma_offsets task given) × Nearby offsets.now }
-    ensures { result ≡ plane_table task given origin source own samples.now reference.now }
+    ensures value { result ≡ plane_table task given origin source own samples.now reference.now }
+    ensures most { Most 130560 result }
 {
-    let measure = task.measure;
-    let shift = task.shift;
-    let sides = task.block;
-    let full_w = sides.x;
-    let full_h = sides.y;
-    let w = chroma_side(full_w, shift);
-    let h = chroma_side(full_h, shift);
-    let step = source.pitch;
-    let block = plane::gather_from(samples, origin, natural(step), w, h);
+    let w = chroma_side(task.block.x, task.shift);
+    let h = chroma_side(task.block.y, task.shift);
+    let rows = Rows {
+        bytes: samples,
+        pitch: natural(source.pitch),
+    };
+    let block = plane::gather_from(rows, origin, w, h);
+    let packed = Packed {
+        samples: &block,
+        w,
+        h,
+    };
     let choice = choice_of(task, given);
-    tables::costs(measure, w, h, &block, reference, own, offsets, choice)
+    let view = PlaneView::new(reference, own);
+    tables::costs(task.measure, packed, view, offsets, choice)
 }
 
-fn chroma_table(
-    task: Task,
-    given: Record,
-    u: &[u8],
-    v: &[u8],
-    reference_u: &[u8],
-    reference_v: &[u8],
-) -> [u32; 50]
+fn chroma_table(task: Task, given: Record, source: Samples, reference: Samples) -> [u32; 50]
     requires { Fair task given × (is_bad given ≡ true) }
-    ensures { result ≡ chroma_table task given u.now v.now reference_u.now reference_v.now }
+    ensures value { result ≡ chroma_table task given source.entry.u.now source.entry.v.now reference.entry.u.now reference.entry.v.now }
+    ensures small { Small result }
 {
     let from = task.source;
-    let from_u = from.u;
-    let from_v = from.v;
     let to = task.reference;
-    let to_u = to.u;
-    let to_v = to.v;
-    let shift = task.shift;
-    let origin_u = given.u;
-    let origin_v = given.v;
-    let at = chroma_offsets(task, given, reference_u);
-    let us = plane_table(task, given, origin_u, from_u, to_u, u, reference_u, &at);
-    let vs = plane_table(task, given, origin_v, from_v, to_v, v, reference_v, &at);
-    tables::join(&us, &vs, scale_of(shift))
+    let at = chroma_offsets(task, given, reference.u);
+    let us = plane_table(
+        task,
+        given,
+        given.u,
+        from.u,
+        to.u,
+        source.u,
+        reference.u,
+        &at,
+    );
+    let vs = plane_table(
+        task,
+        given,
+        given.v,
+        from.v,
+        to.v,
+        source.v,
+        reference.v,
+        &at,
+    );
+    tables::join(&us, &vs, scale_of(task.shift))
 }
 
 // ---- the average, and the answer
@@ -240,11 +240,11 @@ fn average_of(task: Task, given: Record, luma: &[u8]) -> i32
 {
     let w = width_of(task, given);
     let h = height_of(task, given);
-    let planes = task.source;
-    let place = planes.luma;
-    let pitch = place.pitch;
-    let origin = given.average;
-    plane::average(luma, origin, natural(pitch), w, h)
+    let source = Rows {
+        bytes: luma,
+        pitch: natural(task.source.luma.pitch),
+    };
+    plane::average(source, given.average, w, h)
 }
 
 fn answer(task: Task, given: Record, lumas: &[u32; 50], chromas: &[u32; 50], average: i32) -> Best
@@ -255,41 +255,28 @@ fn answer(task: Task, given: Record, lumas: &[u32; 50], chromas: &[u32; 50], ave
     let choice = choice_of(task, given);
     let bad = window::is_bad(given);
     let negative = window::is_negative(given);
-    let sad = given.sad;
-    let chosen = choosing::select(choice, bad, negative, sad, lumas, chromas);
-    let x = chosen.x;
-    let y = chosen.y;
-    let least = chosen.sad;
+    let chosen = choice.select(bad, negative, given.sad, lumas, chromas);
     Best {
-        x: x,
-        y: y,
-        sad: least,
-        average: average,
+        x: chosen.x,
+        y: chosen.y,
+        sad: chosen.sad,
+        average,
     }
 }
 
 // A block that isn't bad has no table, and a negative one none of chroma: no byte is read for these.
-pub fn best_of(
-    task: Task,
-    given: Record,
-    luma: &[u8],
-    u: &[u8],
-    v: &[u8],
-    reference_luma: &[u8],
-    reference_u: &[u8],
-    reference_v: &[u8],
-) -> Best
+pub fn best_of(task: Task, given: Record, source: Samples, reference: Samples) -> Best
     requires { Fair task given }
-    ensures { result ≡ best_of task given luma.now u.now v.now reference_luma.now reference_u.now reference_v.now }
+    ensures { result ≡ best_of task given source.entry.luma.now source.entry.u.now source.entry.v.now reference.entry.luma.now reference.entry.u.now reference.entry.v.now }
 {
-    let average = average_of(task, given, luma);
+    let average = average_of(task, given, source.luma);
     let none = [0u32; 50];
     if window::is_bad(given) {
-        let lumas = luma_table(task, given, luma, reference_luma);
+        let lumas = luma_table(task, given, source.luma, reference.luma);
         if window::is_negative(given) {
             return answer(task, given, &lumas, &none, average);
         }
-        let chromas = chroma_table(task, given, u, v, reference_u, reference_v);
+        let chromas = chroma_table(task, given, source, reference);
         return answer(task, given, &lumas, &chromas, average);
     }
     answer(task, given, &none, &none, average)

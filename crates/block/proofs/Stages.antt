@@ -1,10 +1,9 @@
 -- A block's step, put together of its stages, each worked out from the one before. Assumes nothing.
-use Rattle.std.specs.Prelude.{◌≡◌, Bool, cond, ℤ}
+use Rattle.std.specs.Prelude.{◌≡◌, Bool, cond, ℤ, Some}
 use Rattle.std.proofs.Math.Path.{sym, ap}
 use Rattle.std.proofs.Common.{◌∙◌}
 use Rattle.std.proofs.Math.Bool.{true, false}
 use Rattle.whole.specs.Signed.{holds}
-use Rattle.records.specs.declared.Offset.TheVariants.{At}
 use Rattle.records.specs.declared.Record.{Record}
 use Rattle.slots.specs.declared.Source.{Source}
 use Rattle.slots.specs.declared.Slots.{Slots}
@@ -54,7 +53,7 @@ module _ (p : Planes) (shift : Sides) (b : Block) (h : Shape) (lambda : ℤ) (t 
   pub bad_stages : {own spot : Spot} {source : Source} {written after : Slots} {moves : Bool} {at : ℤ} {made : Record} →
       own ≡ spot_of shift false h → written ≡ filled_with p h.negative own t →
       moves ≡ moves_of h → spot ≡ spot_of shift moves h → after ≡ settled_at p h.negative moves spot written → source ≡ active_of after →
-      at ≡ pel1_of p.luma own.x own.y → made ≡ bad_record b h spot lambda source (At at) →
+      at ≡ pel1_of p.luma own.x own.y → made ≡ bad_record b h spot lambda source (Some at) →
       ◌≡◌ {A = Step} (record { made = made; slots = after }) (bad_step p shift b h lambda t)
   unfolding bad_step
   bad_stages e₀ e₁ e₂ e₃ e₄ e₅ e₆ e₇ = cc
@@ -62,7 +61,7 @@ module _ (p : Planes) (shift : Sides) (b : Block) (h : Shape) (lambda : ℤ) (t 
 module _ (luma : Place) (b : Block) (h : Shape) (lambda : ℤ) (t : Slots) where
   pub luma_stages : {after : Slots} {at : ℤ} {made : Record} →
       at ≡ pel1_of luma h.across.origin h.down.origin → after ≡ luma_in_active h.negative at t →
-      made ≡ quiet_record b h.negative lambda (At at) →
+      made ≡ quiet_record b h.negative lambda (Some at) →
       ◌≡◌ {A = Step} (record { made = made; slots = after }) (luma_step luma b h lambda t)
   unfolding luma_step
   luma_stages e₀ e₁ e₂ = cc

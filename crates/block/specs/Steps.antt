@@ -1,7 +1,5 @@
 -- 01, "Planning": the slots after a block, and the block's record. Definitions alone.
-use Rattle.std.specs.Prelude.{Bool, true, false, cond, ℤ, pos, negsuc, ◌*ℤ◌}
-use Rattle.records.specs.declared.Offset.{Offset}
-use Rattle.records.specs.declared.Offset.TheVariants.{At, Absent}
+use Rattle.std.specs.Prelude.{Bool, true, false, cond, ℤ, pos, negsuc, ◌*ℤ◌, None, Option, Some}
 use Rattle.records.specs.declared.Pair.{Pair}
 use Rattle.records.specs.declared.Record.{Record}
 use Rattle.slots.specs.declared.Source.{Source}
@@ -40,13 +38,13 @@ abbrev pub pair_of : ℤ → ℤ → Pair
 pair_of first second = record { first = first; second = second }
 
 -- "A block that isn't bad keeps absent offsets, zero positions and window (0,-1,0,-1)"
-unfoldable pub quiet_record : Block → Bool → ℤ → Offset → Record
+unfoldable pub quiet_record : Block → Bool → ℤ → Option ℤ → Record
 quiet_record b negative lambda average =
     record {
-      full = Absent;
-      overlay = Absent;
-      u = Absent;
-      v = Absent;
+      full = None;
+      overlay = None;
+      u = None;
+      v = None;
       average = average;
       pos = pair_of (pos 0) (pos 0);
       cpos = pair_of (pos 0) (pos 0);
@@ -63,7 +61,7 @@ abbrev pub scaled_pair : ℤ → ℤ → ℤ → Pair
 scaled_pair pel x y = pair_of (pel *ℤ x) (pel *ℤ y)
 
 -- the record of a bad block: its samples from a source, its place and windows from its shape
-unfoldable pub bad_record : Block → Shape → Spot → ℤ → Source → Offset → Record
+unfoldable pub bad_record : Block → Shape → Spot → ℤ → Source → Option ℤ → Record
 bad_record b h spot lambda s average =
     record {
       full = s.full;
@@ -90,17 +88,17 @@ bad_step p shift b h lambda t =
     let written = filled_with p h.negative own t in
     let spot = spot_of shift (moves_of h) h in
     let after = settled_at p h.negative (moves_of h) spot written in
-    record { made = bad_record b h spot lambda (active_of after) (At (pel1_of p.luma own.x own.y)); slots = after }
+    record { made = bad_record b h spot lambda (active_of after) (Some (pel1_of p.luma own.x own.y)); slots = after }
 
 -- "or any block when luma is needed, writes its luma origin into the active slot"
 unfoldable pub luma_step : Place → Block → Shape → ℤ → Slots → Step
 luma_step luma b h lambda t =
     let at = pel1_of luma h.across.origin h.down.origin in
-    record { made = quiet_record b h.negative lambda (At at); slots = luma_in_active h.negative at t }
+    record { made = quiet_record b h.negative lambda (Some at); slots = luma_in_active h.negative at t }
 
 -- "its average is absent unless luma is needed"
 unfoldable pub quiet_step : Block → Bool → ℤ → Slots → Step
-quiet_step b negative lambda t = record { made = quiet_record b negative lambda Absent; slots = t }
+quiet_step b negative lambda t = record { made = quiet_record b negative lambda None; slots = t }
 
 -- which of the three a block's shape and lambda make it
 unfoldable pub step_with : Settings → Block → Slots → Shape → ℤ → Step

@@ -11,11 +11,12 @@ ghost use Rattle.block.specs.Asked.{Addressed, Shaped, SpotHeld, Held, Ready};
 
 use axis::Axis;
 use plane::Place;
-use planes::{Planes, Sides};
+use plane_view::PlaneView;
+use planes::{Planes, Samples, Sides};
 use records::{Offset, Pair, Record};
 use slots::{Slots, Source};
 
-// Laid out as C lays them out: a host hands settings over by value.
+// Stays numbers and flags, laid out as C lays them out: a host hands settings over by value.
 #[repr(C)]
 #[derive(Clone, Copy)]
 pub struct Search {
@@ -95,12 +96,7 @@ fn is_negative(level: Level, grid: Sides, block: Block) -> bool
     requires { Within 0 2048 grid.x × Within 0 2048 grid.y }
     ensures { result ≡ negative_of level grid block }
 {
-    let smallest = level.smallest;
-    let x = block.x;
-    let y = block.y;
-    let nx = grid.x;
-    let ny = grid.y;
-    smallest & (on_rim(x, nx) | on_rim(y, ny))
+    level.smallest & (on_rim(block.x, grid.x) | on_rim(block.y, grid.y))
 }
 
 fn axis_of(
@@ -117,23 +113,22 @@ fn axis_of(
     ensures { result ≡ axis_of pel frame step side place predictor radius negative }
 {
     let origin = place * step;
+    let plain = Axis {
+        pel,
+        frame,
+        origin,
+        side,
+        predictor,
+        radius,
+    };
     if negative {
-        return Axis {
-            pel: pel,
-            frame: frame,
+        Axis {
             origin: origin + (side >> 2),
             side: side >> 1,
-            predictor: predictor,
-            radius: radius,
-        };
-    }
-    Axis {
-        pel: pel,
-        frame: frame,
-        origin: origin,
-        side: side,
-        predictor: predictor,
-        radius: radius,
+            ..plain
+        }
+    } else {
+        plain
     }
 }
 
@@ -141,33 +136,26 @@ fn shape_of(s: Settings, block: Block) -> Shape
     requires { Shaped s block }
     ensures { result ≡ shape_of s block }
 {
-    let level = s.level;
-    let grid = s.grid;
-    let search = s.search;
-    let negative = is_negative(level, grid, block);
-    let search_param = search.search_param;
-    let radius = limits::radius_of(search_param);
-    let pel = level.pel;
-    let planes = s.planes;
-    let luma = planes.luma;
-    let width = luma.width;
-    let height = luma.height;
-    let step = s.step;
-    let step_x = step.x;
-    let step_y = step.y;
-    let sides = s.block;
-    let w = sides.x;
-    let h = sides.y;
-    let x = block.x;
-    let y = block.y;
-    let px = block.px;
-    let py = block.py;
-    let across = axis_of(pel, width, step_x, w, x, px, radius, negative);
-    let down = axis_of(pel, height, step_y, h, y, py, radius, negative);
+    let negative = is_negative(s.level, s.grid, block);
+    let radius = limits::radius_of(s.search.search_param);
+    let pel = s.level.pel;
+    let luma = s.planes.luma;
+    let Block { x, y, px, py, .. } = block;
     Shape {
-        across: across,
-        down: down,
-        negative: negative,
+        across: axis_of(
+            pel, luma.width, s.step.x, s.block.x, x, px, radius, negative,
+        ),
+        down: axis_of(
+            pel,
+            luma.height,
+            s.step.y,
+            s.block.y,
+            y,
+            py,
+            radius,
+            negative,
+        ),
+        negative,
     }
 }
 
@@ -175,22 +163,23 @@ fn shape_of(s: Settings, block: Block) -> Shape
 fn lambda_of(weights: Weights, negative: bool) -> i32
     ensures { result ≡ lambda_of weights negative }
 {
-    let lambda = weights.lambda;
-    let quarter = records::quarter(lambda);
+    let quarter = records::quarter(weights.lambda);
     if negative {
-        return records::third(quarter);
+        records::third(quarter)
+    } else {
+        quarter
     }
-    quarter
 }
 
 fn is_bad(weights: Weights, negative: bool, sad: i32) -> bool
     ensures { result ≡ is_bad weights negative sad }
 {
-    let bad_sad = weights.bad_sad;
-    if negative {
-        return records::third(bad_sad) < sad;
-    }
-    bad_sad < sad
+    let limit = if negative {
+        records::third(weights.bad_sad)
+    } else {
+        weights.bad_sad
+    };
+    limit < sad
 }
 
 // ---- where the samples are taken
@@ -198,11 +187,9 @@ fn is_moved(shape: Shape) -> bool
     requires { Bounded shape.across × Bounded shape.down }
     ensures { result ≡ moves_of shape }
 {
-    let across = shape.across;
-    let down = shape.down;
-    let x = axis::excess(across);
-    let y = axis::excess(down);
-    !(whole::within(x, 0, 0) & whole::within(y, 0, 0))
+    let x = axis::excess(shape.across);
+    let y = axis::excess(shape.down);
+    (x != 0) | (y != 0)
 }
 
 fn chroma_place(origin: i32, place: i32, shift: i32) -> i32
@@ -216,22 +203,11 @@ fn spot_of(shape: Shape, shift: Sides, moves: bool) -> Spot
     requires { Bounded shape.across × Bounded shape.down }
     ensures { result ≡ spot_of shift moves shape }
 {
-    let across = shape.across;
-    let down = shape.down;
-    let left = across.origin;
-    let top = down.origin;
-    let shift_x = shift.x;
-    let shift_y = shift.y;
-    let x = axis::place(across, moves);
-    let y = axis::place(down, moves);
-    let cx = chroma_place(left, x, shift_x);
-    let cy = chroma_place(top, y, shift_y);
-    Spot {
-        x: x,
-        y: y,
-        cx: cx,
-        cy: cy,
-    }
+    let x = axis::place(shape.across, moves);
+    let y = axis::place(shape.down, moves);
+    let cx = chroma_place(shape.across.origin, x, shift.x);
+    let cy = chroma_place(shape.down.origin, y, shift.y);
+    Spot { x, y, cx, cy }
 }
 
 // ---- the slots
@@ -240,44 +216,28 @@ fn offset_at(bytes: &[u8], place: Place, x: i32, y: i32) -> i32
     requires { Addressed place x y }
     ensures { result ≡ pel1_of place x y }
 {
-    plane_view::pel1_of(bytes, place, x as i64, y as i64) as i32
+    PlaneView::new(bytes, place).pel1(x as i64, y as i64) as i32
 }
 
 // The active slot is written with a place.
-fn filled(
-    luma: &[u8],
-    u: &[u8],
-    v: &[u8],
-    planes: Planes,
-    negative: bool,
-    spot: Spot,
-    slots: Slots,
-) -> Slots
+fn filled(samples: Samples, planes: Planes, negative: bool, spot: Spot, slots: Slots) -> Slots
     requires { SpotHeld planes negative spot }
     ensures { result ≡ filled_with planes negative spot slots }
 {
-    let place_luma = planes.luma;
-    let x = spot.x;
-    let y = spot.y;
-    let written = slots::after_luma(slots, negative, offset_at(luma, place_luma, x, y));
+    let Spot { x, y, cx, cy } = spot;
+    let written = slots::after_luma(slots, negative, offset_at(samples.luma, planes.luma, x, y));
     if negative {
         return written;
     }
-    let place_u = planes.u;
-    let place_v = planes.v;
-    let cx = spot.cx;
-    let cy = spot.cy;
     slots::after_chroma(
         written,
-        offset_at(u, place_u, cx, cy),
-        offset_at(v, place_v, cx, cy),
+        offset_at(samples.u, planes.u, cx, cy),
+        offset_at(samples.v, planes.v, cx, cy),
     )
 }
 
 fn settled(
-    luma: &[u8],
-    u: &[u8],
-    v: &[u8],
+    samples: Samples,
     planes: Planes,
     negative: bool,
     moves: bool,
@@ -289,55 +249,46 @@ fn settled(
 {
     if moves {
         let switched = slots::moved(slots);
-        return filled(luma, u, v, planes, negative, spot, switched);
+        filled(samples, planes, negative, spot, switched)
+    } else {
+        slots::inside(slots)
     }
-    slots::inside(slots)
 }
 
 // ---- the record
 fn flags_of(bad: bool, negative: bool) -> i32
     ensures { result ≡ flags_of bad negative }
 {
-    if bad {
-        return if negative { 3 } else { 1 };
-    }
-    if negative { 2 } else { 0 }
+    i32::from(bad) + 2 * i32::from(negative)
 }
 
 fn quiet_record(block: Block, negative: bool, lambda: i32, average: Offset) -> Record
     ensures { result ≡ quiet_record block negative lambda average }
 {
-    let px = block.px;
-    let py = block.py;
-    let sad = block.sad;
+    let zero = Pair {
+        first: 0,
+        second: 0,
+    };
+    let empty = Pair {
+        first: 0,
+        second: -1,
+    };
     Record {
-        full: Offset::Absent,
-        overlay: Offset::Absent,
-        u: Offset::Absent,
-        v: Offset::Absent,
-        average: average,
-        pos: Pair {
-            first: 0,
-            second: 0,
-        },
-        cpos: Pair {
-            first: 0,
-            second: 0,
-        },
+        full: None,
+        overlay: None,
+        u: None,
+        v: None,
+        average,
+        pos: zero,
+        cpos: zero,
         predictor: Pair {
-            first: px,
-            second: py,
+            first: block.px,
+            second: block.py,
         },
-        window_x: Pair {
-            first: 0,
-            second: -1,
-        },
-        window_y: Pair {
-            first: 0,
-            second: -1,
-        },
-        sad: sad,
-        lambda: lambda,
+        window_x: empty,
+        window_y: empty,
+        sad: block.sad,
+        lambda,
         flags: flags_of(false, negative),
     }
 }
@@ -363,40 +314,31 @@ fn bad_record(
     requires { Held shape spot }
     ensures { result ≡ bad_record block shape spot lambda source average }
 {
-    let full = source.full;
-    let overlay = source.half;
-    let u = source.u;
-    let v = source.v;
-    let across = shape.across;
-    let down = shape.down;
-    let pel = across.pel;
-    let x = spot.x;
-    let y = spot.y;
+    let pel = shape.across.pel;
+    let Spot { x, y, cx, cy } = spot;
     Record {
-        full: full,
-        overlay: overlay,
-        u: u,
-        v: v,
-        average: average,
+        full: source.full,
+        overlay: source.half,
+        u: source.u,
+        v: source.v,
+        average,
         pos: scaled(pel, x, y),
-        cpos: scaled(pel, spot.cx, spot.cy),
+        cpos: scaled(pel, cx, cy),
         predictor: Pair {
             first: block.px,
             second: block.py,
         },
-        window_x: axis::window(across, x),
-        window_y: axis::window(down, y),
+        window_x: axis::window(shape.across, x),
+        window_y: axis::window(shape.down, y),
         sad: block.sad,
-        lambda: lambda,
+        lambda,
         flags: flags_of(true, shape.negative),
     }
 }
 
 // ---- the three kinds of block
 fn bad_step(
-    luma: &[u8],
-    u: &[u8],
-    v: &[u8],
+    samples: Samples,
     planes: Planes,
     shift: Sides,
     block: Block,
@@ -408,22 +350,16 @@ fn bad_step(
     requires spot_held { (moves : Bool) → SpotHeld planes shape.negative (spot_of shift moves shape) }
     ensures { result ≡ bad_step planes shift block shape lambda slots }
 {
-    let place = planes.luma;
     let negative = shape.negative;
     let own = spot_of(shape, shift, false);
-    let written = filled(luma, u, v, planes, negative, own, slots);
+    let written = filled(samples, planes, negative, own, slots);
     let moves = is_moved(shape);
     let spot = spot_of(shape, shift, moves);
-    let after = settled(luma, u, v, planes, negative, moves, spot, written);
-    let source = slots::active(after);
-    let x = own.x;
-    let y = own.y;
-    let average = Offset::At(offset_at(luma, place, x, y));
+    let slots = settled(samples, planes, negative, moves, spot, written);
+    let source = slots::active(slots);
+    let average = Some(offset_at(samples.luma, planes.luma, own.x, own.y));
     let made = bad_record(block, shape, spot, lambda, source, average);
-    Step {
-        made: made,
-        slots: after,
-    }
+    Step { made, slots }
 }
 
 // A block that isn't bad, where luma is needed: it writes luma alone, and no slot is switched.
@@ -439,48 +375,31 @@ fn luma_step(
     ensures { result ≡ luma_step place block shape lambda slots }
 {
     let negative = shape.negative;
-    let across = shape.across;
-    let down = shape.down;
-    let x = across.origin;
-    let y = down.origin;
-    let at = offset_at(luma, place, x, y);
-    let after = slots::after_luma(slots, negative, at);
-    let made = quiet_record(block, negative, lambda, Offset::At(at));
-    Step {
-        made: made,
-        slots: after,
-    }
+    let at = offset_at(luma, place, shape.across.origin, shape.down.origin);
+    let slots = slots::after_luma(slots, negative, at);
+    let made = quiet_record(block, negative, lambda, Some(at));
+    Step { made, slots }
 }
 
 fn quiet_step(block: Block, negative: bool, lambda: i32, slots: Slots) -> Step
     ensures { result ≡ quiet_step block negative lambda slots }
 {
-    let made = quiet_record(block, negative, lambda, Offset::Absent);
-    Step {
-        made: made,
-        slots: slots,
-    }
+    let made = quiet_record(block, negative, lambda, None);
+    Step { made, slots }
 }
 
-pub fn plan_block(s: Settings, luma: &[u8], u: &[u8], v: &[u8], block: Block, slots: Slots) -> Step
+pub fn plan_block(s: Settings, samples: Samples, block: Block, slots: Slots) -> Step
     requires { Ready s block }
     ensures { result ≡ step_of s block slots }
 {
-    let weights = s.weights;
-    let level = s.level;
-    let planes = s.planes;
-    let shift = s.shift;
     let shape = shape_of(s, block);
     let negative = shape.negative;
-    let lambda = lambda_of(weights, negative);
-    let sad = block.sad;
-    if is_bad(weights, negative, sad) {
-        return bad_step(luma, u, v, planes, shift, block, shape, lambda, slots);
+    let lambda = lambda_of(s.weights, negative);
+    if is_bad(s.weights, negative, block.sad) {
+        bad_step(samples, s.planes, s.shift, block, shape, lambda, slots)
+    } else if s.level.need_luma {
+        luma_step(samples.luma, s.planes.luma, block, shape, lambda, slots)
+    } else {
+        quiet_step(block, negative, lambda, slots)
     }
-    let need_luma = level.need_luma;
-    if need_luma {
-        let place = planes.luma;
-        return luma_step(luma, place, block, shape, lambda, slots);
-    }
-    quiet_step(block, negative, lambda, slots)
 }

@@ -2,245 +2,177 @@
 // the inputs left of an `=` and the answers right of it. A line that is empty or begins with # is no case.
 #![tactic(auto)]
 
-ghost use Rattle.std.specs.Prelude.{◌≡◌, ◌<◌, ◌≤◌, true, length};
-ghost use Rattle.cases.specs.Places.{Past, Reach, Sized, Tells};
-ghost use Rattle.cases.specs.Samples.{limited_to};
+ghost use Rattle.std.specs.Prelude.{◌≡◌, ◌≤◌, ◌+◌, ◌++◌, true, length, IfSome, map, get_or, pos};
+ghost use Rattle.std.specs.List.{range_with_len};
+ghost use Rattle.std.specs.Int.{w32};
+ghost use Rattle.whole.specs.Numbers.{wrapped};
+ghost use Rattle.cases.specs.Samples.{limited_to, up_to};
 ghost use Rattle.cases.specs.Tallies.{tallied_by};
 
-// What is known of a line on the way through it. It is broken once something stands in it that no
-// vector has, and stays so: what was read of such a line is never compared.
+// A line that is a case: its word, and the text of its numbers.
 #[derive(Clone, Copy)]
-pub struct Case {
-    pub inputs: usize,
-    pub count: usize,
-    pub value: u64,
-    pub open: bool,
-    pub negative: bool,
-    pub parted: bool,
-    pub broken: bool,
+pub struct Line<'a> {
+    pub word: &'a [u8],
+    pub numbers: &'a [u8],
 }
 
-// A line's word ends at word; the line is whole where its numbers are numbers, all of them were
-// stored, and one `=` parts them.
+impl<'a> Line<'a> {
+    // The word ends at a blank, or with the line.
+    pub fn parse(text: &'a [u8]) -> Option<Line<'a>>
+        ensures { IfSome result (λ line. line.word.now ++ line.numbers.now ≡ text.now) }
+    {
+        if matches!(text, [] | [b'#' | b'\n', ..]) {
+            return None;
+        }
+        let end = text
+            .iter()
+            .position(|byte| matches!(byte, b' ' | b'\n'))
+            .unwrap_or(text.len());
+        let (word, numbers) = text.split_at(end);
+        Some(Line { word, numbers })
+    }
+}
+
+// The numbers of a case.
 #[derive(Clone, Copy)]
-pub struct Line {
-    pub case: bool,
-    pub whole: bool,
-    pub word: usize,
-    pub inputs: usize,
-    pub count: usize,
-    pub next: usize,
+pub struct Case<'a> {
+    pub inputs: &'a [i64],
+    pub answers: &'a [i64],
 }
 
-// No number of a vector has more than 18 digits.
-fn with_digit(case: Case, digit: u64) -> Case
-    requires { digit < 10 }
-{
-    let mut next = case;
-    let value = case.value;
-    next.open = true;
-    if value < 100000000000000000 {
-        next.value = value * 10 + digit;
-        return next;
-    }
-    next.broken = true;
-    next
-}
-
-fn signed(value: u64, negative: bool) -> i64 {
-    if value > 1000000000000000000 {
-        return 0;
-    }
-    if negative {
-        return 0 - value as i64;
-    }
-    value as i64
-}
-
-// The number that was being read is stored. A minus with no digit behind it breaks the line, and so
-// does a number that there is no room for: dropped, it would be one that nobody compares.
-fn closed(case: Case, numbers: &mut [i64]) -> Case {
-    let open = case.open;
-    let count = case.count;
-    let value = case.value;
-    let negative = case.negative;
-    let broken = case.broken;
-    let mut next = case;
-    next.value = 0;
-    next.open = false;
-    next.negative = false;
-    if !open {
-        next.broken = broken | negative;
-        return next;
-    }
-    if count < numbers.len() {
-        numbers[count] = signed(value, negative);
-        next.count = count + 1;
-        return next;
-    }
-    next.broken = true;
-    next
-}
-
-fn fed(case: Case, byte: u8, numbers: &mut [i64]) -> Case {
-    let mut next = case;
-    if (48 <= byte) & (byte <= 57) {
-        return with_digit(case, (byte % 48) as u64);
-    }
-    if byte == b'-' {
-        next.broken = case.broken | case.open | case.negative;
-        next.negative = true;
-        return next;
-    }
-    next = closed(case, numbers);
-    if byte == b'=' {
-        next.broken = next.broken | next.parted;
-        next.inputs = next.count;
-        next.parted = true;
-        return next;
-    }
-    next.broken = next.broken | (byte != b' ');
-    next
-}
-
-// Where the word at this place ends: at a blank, or with the line.
-fn word_end(text: &[u8], at: usize) -> usize
-    requires { at ≤ length text.now }
-    ensures { Reach at (length text.now) result }
-{
-    let mut next = at;
-    while next < text.len() {
-        let byte = text[next];
-        if (byte == b' ') | (byte == b'\n') {
-            return next;
+impl<'a> Case<'a> {
+    // The numbers of a text, put into room. A text with something in it that no vector has is no case,
+    // and neither is one that has more numbers than there is room for: one left out would be one that
+    // nobody compares.
+    pub fn parse(numbers: &[u8], room: &'a mut [i64]) -> Option<Case<'a>>
+        ensures { IfSome result (λ case. length case.inputs.now + length case.answers.now ≤ length room.old) }
+    {
+        let mut sides = numbers.split(|byte| *byte == b'=');
+        let inputs = put(sides.next()?, room)?;
+        let answers = put(sides.next()?, &mut room[inputs..])?;
+        if sides.next().is_some() {
+            return None;
         }
-        next += 1;
+        let (inputs, behind) = room.split_at(inputs);
+        Some(Case {
+            inputs,
+            answers: &behind[..answers],
+        })
     }
-    next
-}
 
-// The line from at on: where its word ends, its numbers, how many there are and how many of them are
-// inputs, and where the next line begins.
-pub fn next_line(text: &[u8], at: usize, numbers: &mut [i64]) -> Line
-    requires { at < length text.now }
-    ensures past { Past at (length text.now) result.next }
-    ensures reach { Reach at (length text.now) result.word }
-{
-    let first = text[at];
-    let word = word_end(text, at);
-    let mut case = Case {
-        inputs: 0,
-        count: 0,
-        value: 0,
-        open: false,
-        negative: false,
-        parted: false,
-        broken: false,
-    };
-    let mut next = word;
-    while next < text.len() {
-        let byte = text[next];
-        next += 1;
-        if byte == b'\n' {
-            break;
+    // The inputs as numbers of 32 bits, where there are just as many as are asked for.
+    pub fn words<const N: usize>(&self) -> Option<[i32; N]>
+        ensures long { IfSome result (λ _. length self.now.inputs.now ≡ N) }
+        ensures value { IfSome result (λ words. words ≡ map (wrapped w32) self.now.inputs.now) }
+    {
+        if self.inputs.len() != N {
+            return None;
         }
-        case = fed(case, byte, numbers);
+        let mut words = [0; N];
+        for (place, input) in self.inputs.iter().enumerate() {
+            words[place] = whole::wrap32(*input);
+        }
+        Some(words)
     }
-    let done = closed(case, numbers);
-    Line {
-        case: (first != b'#') & (first != b'\n'),
-        whole: done.parted & !done.broken,
-        word: word,
-        inputs: done.inputs,
-        count: done.count,
-        next: next,
+
+    // Whether the answers are these values: none is missing, and none is there beside them.
+    pub fn answered<T: Copy + Into<i64>>(&self, values: &[T]) -> bool
+        ensures { result ≡ true → length self.now.answers.now ≡ length values.now }
+    {
+        self.answers.len() == values.len()
+            && self
+                .answers
+                .iter()
+                .zip(values)
+                .all(|(answer, value)| *answer == (*value).into())
     }
 }
 
-// Whether a line with so many inputs, and so many numbers in all, has just those that are asked for.
-pub fn sized(inputs: usize, count: usize, asked: usize, answers: usize) -> bool
-    ensures { result ≡ true → Sized asked answers inputs count }
+// How many numbers the text has, which are put into the first places.
+fn put(text: &[u8], room: &mut [i64]) -> Option<usize>
+    ensures { IfSome result (λ count. count ≤ length room.new) }
 {
-    if count < inputs {
-        return false;
+    let mut count = 0;
+    for digits in text.split(|byte| matches!(byte, b' ' | b'\n')) {
+        if digits.is_empty() {
+            continue;
+        }
+        let number = number_of(digits)?;
+        *room.get_mut(count)? = number;
+        count += 1;
     }
-    (inputs == asked) & (count - inputs == answers)
+    Some(count)
 }
 
-// A number from 0 to most, or 0 for another.
+// No number of a vector has a plus, or more than 18 digits.
+fn number_of(digits: &[u8]) -> Option<i64> {
+    if digits.starts_with(b"+") {
+        return None;
+    }
+    let number = str::from_utf8(digits).ok()?.parse::<i64>().ok()?;
+    (number.unsigned_abs() < 1_000_000_000_000_000_000).then_some(number)
+}
+
+// A number from 0 to most.
+pub fn up_to(number: i64, most: usize) -> Option<usize>
+    ensures value { result ≡ up_to most number }
+    ensures bound { IfSome result (λ size. size ≤ most) }
+{
+    usize::try_from(number).ok().filter(|size| *size <= most)
+}
+
+// The same, or 0 for another.
 pub fn limited(number: i64, most: usize) -> usize
     ensures { (result ≡ limited_to most number) × (result ≤ most) }
 {
-    if number < 0 {
-        return 0;
-    }
-    let size = number as usize;
-    if most < size {
-        return 0;
-    }
-    size
+    up_to(number, most).unwrap_or(0)
 }
 
 // A sample: a number from 0 to 255, or 0 for another.
-pub fn byte(number: i64) -> u8
+fn sample(number: i64) -> u8
     ensures { result ≡ limited_to 255 number }
 {
-    limited(number, 255) as u8
+    u8::try_from(number).unwrap_or(0)
 }
 
-// A vector's number against a value of 32 bits.
-pub fn is(number: i64, value: i32) -> bool
-    ensures { Tells result number value }
+// So many samples, of the first numbers; where there are no more, zeros.
+pub fn bytes<const N: usize>(numbers: &[i64]) -> [u8; N]
+    ensures { result ≡ map (λ k. limited_to 255 (get_or numbers.now k (pos 0))) (range_with_len 0 N) }
 {
-    number == value as i64
+    let mut bytes = [0; N];
+    for (place, byte) in bytes.iter_mut().enumerate() {
+        *byte = numbers.get(place).map_or(0, |number| sample(*number));
+    }
+    bytes
+}
+
+// What a line is found to be.
+#[derive(Clone, Copy, PartialEq, Eq)]
+pub enum Outcome {
+    NoCase,
+    Agrees,
+    Differs,
 }
 
 // How many lines were read, how many of them are cases, and how many of these differ.
-#[derive(Clone, Copy)]
+#[derive(Clone, Copy, Default)]
 pub struct Tally {
     pub lines: u64,
     pub cases: u64,
     pub differ: u64,
 }
 
-pub fn no_lines() -> Tally
-    ensures { (result.lines ≡ 0) × (result.cases ≡ 0) × (result.differ ≡ 0) }
-{
-    Tally {
-        lines: 0,
-        cases: 0,
-        differ: 0,
-    }
-}
-
-// The tally after one line more, which is a case or none. A case that differs is named.
-pub fn tallied(tally: Tally, case: bool, agrees: bool) -> Tally
-    ensures { result ≡ tallied_by tally case agrees }
-{
-    let lines = std::num::wrapping_add_u64(tally.lines, 1);
-    let cases = tally.cases;
-    let differ = tally.differ;
-    if !case {
-        return Tally {
-            lines: lines,
-            cases: cases,
-            differ: differ,
-        };
-    }
-    let more = std::num::wrapping_add_u64(cases, 1);
-    if agrees {
-        return Tally {
-            lines: lines,
-            cases: more,
-            differ: differ,
-        };
-    }
-    io::write_all(1, b"differs: line ");
-    io::print_decimal(1, lines);
-    io::write_all(1, b"\n");
-    Tally {
-        lines: lines,
-        cases: more,
-        differ: std::num::wrapping_add_u64(differ, 1),
+impl Tally {
+    // The tally after one line more.
+    pub fn tallied(self, outcome: Outcome) -> Tally
+        ensures { result ≡ tallied_by self outcome }
+    {
+        let case = u64::from(outcome != Outcome::NoCase);
+        let differs = u64::from(outcome == Outcome::Differs);
+        Tally {
+            lines: self.lines.wrapping_add(1),
+            cases: self.cases.wrapping_add(case),
+            differ: self.differ.wrapping_add(differs),
+        }
     }
 }

@@ -1,12 +1,11 @@
 -- The butterflies give the Hadamard values of the sign table (01, "Evaluating and choosing": SATD), columns first (02, Nine). Assumes nothing.
 use Rattle.std.specs.Prelude.{◌≡◌, refl, ℕ, zero, suc, ◌<◌, ℤ, ◌+ℤ◌, ◌-ℤ◌}
 use Rattle.std.proofs.Common.{sym, ◌∙◌, arith}
-use Rattle.distance.specs.declared.Quad.{Quad}
-use Rattle.distance.specs.declared.Tile.{Tile}
 use Rattle.distance.specs.Distance.{hadamard_at}
 use Rattle.distance.specs.Hadamard.{along}
 use Rattle.distance.proofs.HadamardLaws.{along_same, along0, along1, along2, along3, columns_first}
-use Rattle.distance.specs.Parts.{pick, entry, turned, rows_turned, rows_added, rows_subtracted, columns_turned}
+use Rattle.distance.specs.Fours.{Quad, Tile, pick}
+use Rattle.distance.specs.Parts.{entry, turned, rows_turned, rows_added, rows_subtracted, columns_turned}
 use Rattle.distance.specs.Steps.{column_step, row_step, quad_of, tile_of}
 
 -- ---- one step: a turned row holds the values of the row

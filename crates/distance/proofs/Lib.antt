@@ -1,5 +1,5 @@
 pub mod Tiles
-pub mod Rows
+pub mod Slices
 pub mod SideBySide
 pub mod Absolute
 pub mod HadamardLaws

@@ -1,9 +1,8 @@
 -- 01, "Numbers to hold on to": one difference of 1 in a tile, and sixteen. 02, Nine: two tiles, step by step. Each is computed from the definitions.
 -- Assumes nothing.
 use Rattle.std.specs.Prelude.{◌≡◌, refl, ℕ, zero, suc, ℤ, pos, neg_ℤ}
-use Rattle.distance.specs.declared.Quad.{Quad}
-use Rattle.distance.specs.declared.Tile.{Tile}
 use Rattle.distance.specs.Distance.{Block, sum, sum_z, hadamard_at, tile_sum, sad, satd}
+use Rattle.distance.specs.Fours.{Quad, Tile}
 use Rattle.distance.specs.Parts.{entry}
 use Rattle.distance.specs.Steps.{steps_of}
 

@@ -1,10 +1,9 @@
 -- A tile's two steps (02, Nine): its columns first, and then the rows that these leave. Definitions alone. That the second step leaves the Hadamard
 -- values is in Butterflies, and one tile is worked in Examples.
 use Rattle.std.specs.Prelude.{ℕ, ℤ, ◌*ℤ◌}
-use Rattle.distance.specs.declared.Quad.{Quad}
-use Rattle.distance.specs.declared.Tile.{Tile}
 use Rattle.distance.specs.declared.Steps.{Steps}
 use Rattle.distance.specs.Distance.{sum_z, sign, hadamard_at, tile_sum}
+use Rattle.distance.specs.Fours.{Quad, Tile}
 
 -- After the column step value (i, x) is the sum over y of sign(i, y) x d(y, x): what the bench dumps.
 abbrev pub column_step : (ℕ → ℕ → ℤ) → ℕ → ℕ → ℤ

@@ -16,6 +16,12 @@ sum_suc n f = refl
 pub sum_next : (n : ℕ) (f : ℕ → ℕ) → sum (n + 1) f ≡ sum n f + f n
 sum_next n f = ap (λ (k : ℕ). sum k f) (omega arith) ∙ sum_suc n f
 
+-- the first term apart
+pub sum_front : (n : ℕ) (f : ℕ → ℕ) → sum (suc n) f ≡ f 0 + sum n (λ i. f (suc i))
+unfolding sum
+sum_front zero f = omega arith
+sum_front (suc n) f = omega (arith, sum_front n f)
+
 -- ---- term by term
 pub sum_le : (n : ℕ) {f g : ℕ → ℕ} → ((i : ℕ) → i < n → f i ≤ g i) → sum n f ≤ sum n g
 unfolding sum

@@ -5,16 +5,19 @@ ghost use Rattle.std.specs.Prelude.{◌≡◌, ◌++◌, ◌+◌, ◌*◌, ◌/�
 ghost use Rattle.std.proofs.Math.Seq.{paste};
 ghost use Rattle.limits.specs.Sizes.{words_per_record, numbers_per_best};
 ghost use Rattle.limits.specs.Limits.{radius_of};
+ghost use Rattle.refusals.specs.Numbers.{outcome};
 ghost use Rattle.evaluation.specs.Refusals.{holds1, reference_holds, references_hold, holds2, has_room, refusal_of};
 ghost use Rattle.evaluation.specs.Evaluated.{task_of, best_list, bests_upto, evaluate_answer, evaluate_bests};
 ghost use Rattle.evaluation.specs.Asked.{FairAll, Searched};
 ghost use Rattle.record_slice.specs.RecordSlice.{any_wide};
 
-use best::Task;
+use best::{Best, Task};
 use five_numbers::Five;
 use plane::Place;
-use planes::{Planes, Sides};
+use planes::{Planes, Samples, Sides};
+use refusals::Refusal;
 
+// Stays numbers and flags, laid out as C lays it out: a host hands it over by value.
 #[repr(C)]
 #[derive(Clone, Copy)]
 pub struct Request {
@@ -31,22 +34,14 @@ pub struct Request {
 fn task_of(request: Request) -> Task
     ensures { result ≡ task_of request }
 {
-    let shift = request.shift;
-    let shift_x = shift.x;
-    let measure = request.measure;
-    let sides = request.block;
-    let pnew = request.pnew;
-    let pel = request.pel;
-    let source = request.source;
-    let reference = request.reference;
     Task {
-        measure: measure,
-        block: sides,
-        shift: shift_x,
-        pnew: pnew,
-        pel: pel,
-        source: source,
-        reference: reference,
+        measure: request.measure,
+        block: request.block,
+        shift: request.shift.x,
+        pnew: request.pnew,
+        pel: request.pel,
+        source: request.source,
+        reference: request.reference,
     }
 }
 
@@ -54,60 +49,36 @@ fn task_of(request: Request) -> Task
 fn holds_1(request: Request) -> bool
     ensures { result ≡ holds1 request }
 {
-    let sides = request.block;
-    let w = sides.x;
-    let h = sides.y;
-    let search_param = request.search_param;
-    limits::is_block(w, h) & whole::within(search_param, -3, 3)
+    limits::is_block(request.block.x, request.block.y) & whole::within(request.search_param, -3, 3)
 }
 
 // A reference plane has the source's sides and the plan's pel.
 fn reference_holds(pel: i32, source: Place, reference: Place) -> bool
     ensures { result ≡ reference_holds pel source reference }
 {
-    let width = source.width;
-    let height = source.height;
-    let reference_width = reference.width;
-    let reference_height = reference.height;
-    let reference_pel = reference.pel;
-    plane::within_limits(reference)
-        & whole::within(reference_width, width, width)
-        & whole::within(reference_height, height, height)
-        & whole::within(reference_pel, pel, pel)
+    reference.within_limits()
+        & (reference.width == source.width)
+        & (reference.height == source.height)
+        & (reference.pel == pel)
 }
 
 fn references_hold(pel: i32, source: Planes, reference: Planes) -> bool
     ensures { result ≡ references_hold pel source reference }
 {
-    let source_luma = source.luma;
-    let source_u = source.u;
-    let source_v = source.v;
-    let luma = reference.luma;
-    let u = reference.u;
-    let v = reference.v;
-    reference_holds(pel, source_luma, luma)
-        & reference_holds(pel, source_u, u)
-        & reference_holds(pel, source_v, v)
+    reference_holds(pel, source.luma, reference.luma)
+        & reference_holds(pel, source.u, reference.u)
+        & reference_holds(pel, source.v, reference.v)
 }
 
 fn holds_2(request: Request) -> bool
     ensures { result ≡ holds2 request }
 {
-    let pel = request.pel;
-    let shift = request.shift;
-    let x = shift.x;
-    let y = shift.y;
-    let source = request.source;
-    let reference = request.reference;
-    let luma = source.luma;
-    let width = luma.width;
-    let height = luma.height;
-    limits::is_pel(pel)
-        & limits::are_shifts(x, y)
-        & limits::is_frame_side(width)
-        & limits::is_frame_side(height)
-        & planes::planes_hold(source, shift)
-        & references_hold(pel, source, reference)
+    limits::is_pel(request.pel)
+        & limits::are_shifts(request.shift.x, request.shift.y)
+        & limits::is_frame_side(request.source.luma.width)
+        & limits::is_frame_side(request.source.luma.height)
+        & planes::planes_hold(request.source, request.shift)
+        & references_hold(request.pel, request.source, request.reference)
 }
 
 fn has_room(words: usize, bests: usize) -> bool
@@ -121,46 +92,39 @@ fn any_too_wide(request: Request, records: &[i32]) -> bool
     requires { Searched request }
     ensures { result ≡ any_wide (radius_of request.search_param) records.now (length records.now / words_per_record) }
 {
-    let search_param = request.search_param;
-    let radius = limits::radius_of(search_param);
+    let radius = limits::radius_of(request.search_param);
     record_slice::any_wide(records, radius, records.len() / limits::WORDS_PER_RECORD)
 }
 
-// The lowest number that applies, or 0. Each test may lean on those before it.
-fn refusal(
+// The lowest number that applies is given. Each test may lean on those before it.
+fn accepted(
     request: Request,
     records: &[i32],
-    luma: &[u8],
-    u: &[u8],
-    v: &[u8],
-    reference_luma: &[u8],
-    reference_u: &[u8],
-    reference_v: &[u8],
+    source: Samples,
+    reference: Samples,
     bests: usize,
-) -> u32
-    ensures { result ≡ refusal_of request records.now (length luma.now) (length u.now) (length v.now) (length reference_luma.now) (length reference_u.now) (length reference_v.now) bests }
+) -> Result<(), Refusal>
+    ensures { result ≡ outcome (refusal_of request records.now (length source.entry.luma.now) (length source.entry.u.now) (length source.entry.v.now) (length reference.entry.luma.now) (length reference.entry.u.now) (length reference.entry.v.now) bests) }
 {
-    let source = request.source;
-    let reference = request.reference;
     if !holds_1(request) {
-        return 1;
+        return Err(Refusal::Setting);
     }
     if !holds_2(request) {
-        return 2;
+        return Err(Refusal::Limit);
     }
-    if !planes::holds_3(source, luma, u, v) {
-        return 3;
+    if !planes::holds_3(request.source, source) {
+        return Err(Refusal::PlaneLength);
     }
-    if !planes::holds_3(reference, reference_luma, reference_u, reference_v) {
-        return 3;
+    if !planes::holds_3(request.reference, reference) {
+        return Err(Refusal::PlaneLength);
     }
     if !has_room(records.len(), bests) {
-        return 5;
+        return Err(Refusal::OutputLength);
     }
     if any_too_wide(request, records) {
-        return 7;
+        return Err(Refusal::Window);
     }
-    0
+    Ok(())
 }
 
 // ---- writing
@@ -168,89 +132,35 @@ fn put(bests: &mut [i32], at: usize, five: Five)
     requires { at + numbers_per_best ≤ length bests.old }
     ensures { bests.new ≡ paste bests.old at (best_list five) numbers_per_best }
 {
-    let best = five.best;
-    let outside = five.outside;
-    let x = best.x;
-    let y = best.y;
-    let sad = best.sad;
-    let average = best.average;
-    let fifth = five_numbers::number_of(outside);
-    put_numbers::put_five(bests, at, x, y, sad, average, fifth);
+    let Best { x, y, sad, average } = five.best;
+    let fifth = five_numbers::number_of(five.outside);
+    put_numbers::put(bests, at, [x, y, sad, average, fifth]);
 }
 
-fn write_all(
-    task: Task,
-    records: &[i32],
-    luma: &[u8],
-    u: &[u8],
-    v: &[u8],
-    reference_luma: &[u8],
-    reference_u: &[u8],
-    reference_v: &[u8],
-    bests: &mut [i32],
-)
+fn write_all(task: Task, records: &[i32], source: Samples, reference: Samples, bests: &mut [i32])
     requires fair_all { FairAll task records.now }
     requires words_per_record_in_bounds { numbers_per_best * (length records.now / words_per_record) ≤ length bests.old }
-    ensures { bests.new ≡ bests_upto task records.now luma.now u.now v.now reference_luma.now reference_u.now reference_v.now (length records.now / words_per_record) ++ drop (numbers_per_best * (length records.now / words_per_record)) bests.old }
+    ensures { bests.new ≡ bests_upto task records.now source.entry.luma.now source.entry.u.now source.entry.v.now reference.entry.luma.now reference.entry.u.now reference.entry.v.now (length records.now / words_per_record) ++ drop (numbers_per_best * (length records.now / words_per_record)) bests.old }
 {
-    let n = records.len() / limits::WORDS_PER_RECORD;
-    let mut i: usize = 0;
-    while i < n {
+    // Stays by number: record i is asked for by it, and says where its five numbers go.
+    for i in 0..records.len() / limits::WORDS_PER_RECORD {
         let given = record_slice::record_at(records, i);
-        let five = five_numbers::five_of(
-            task,
-            given,
-            luma,
-            u,
-            v,
-            reference_luma,
-            reference_u,
-            reference_v,
-        );
+        let five = five_numbers::five_of(task, given, source, reference);
         put(bests, limits::NUMBERS_PER_BEST * i, five);
-        i += 1;
     }
 }
 
 pub fn evaluate(
     request: Request,
     records: &[i32],
-    luma: &[u8],
-    u: &[u8],
-    v: &[u8],
-    reference_luma: &[u8],
-    reference_u: &[u8],
-    reference_v: &[u8],
+    source: Samples,
+    reference: Samples,
     bests: &mut [i32],
-) -> u32
-    ensures value { result ≡ evaluate_answer request records.now luma.now u.now v.now reference_luma.now reference_u.now reference_v.now (length bests.old) }
-    ensures bests_after { bests.new ≡ evaluate_bests request records.now luma.now u.now v.now reference_luma.now reference_u.now reference_v.now bests.old }
+) -> Result<(), Refusal>
+    ensures value { result ≡ outcome (evaluate_answer request records.now source.entry.luma.now source.entry.u.now source.entry.v.now reference.entry.luma.now reference.entry.u.now reference.entry.v.now (length bests.old)) }
+    ensures bests_after { bests.new ≡ evaluate_bests request records.now source.entry.luma.now source.entry.u.now source.entry.v.now reference.entry.luma.now reference.entry.u.now reference.entry.v.now bests.old }
 {
-    let number = refusal(
-        request,
-        records,
-        luma,
-        u,
-        v,
-        reference_luma,
-        reference_u,
-        reference_v,
-        bests.len(),
-    );
-    if number != 0 {
-        return number;
-    }
-    let task = task_of(request);
-    write_all(
-        task,
-        records,
-        luma,
-        u,
-        v,
-        reference_luma,
-        reference_u,
-        reference_v,
-        bests,
-    );
-    0
+    accepted(request, records, source, reference, bests.len())?;
+    write_all(task_of(request), records, source, reference, bests);
+    Ok(())
 }

@@ -1,2 +1,4 @@
 pub mod Finished
 pub mod Outcome
+pub mod Fives
+pub mod Casts

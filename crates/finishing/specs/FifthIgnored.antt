@@ -1,8 +1,7 @@
 -- 02, Two: "finishing ignores the fifth". Bests that are alike but for their fifth numbers, whatever those are, are answered alike, and leave the same
 -- vectors and the same output. Assumes nothing.
-use Rattle.std.specs.Prelude.{◌≡◌, refl, Bool, List, ℕ, zero, suc, ◌<◌, ℤ, length}
-use Rattle.std.proofs.Common.{arith}
-use Rattle.limits.specs.Refusals.{any_upto}
+use Rattle.std.specs.Prelude.{◌≡◌, Bool, List, ℕ, ◌<◌, ℤ, length}
+use Rattle.limits.specs.Refused.{any_alike}
 use Rattle.finishing.specs.Finish.{
   x_at,
   y_at,
@@ -24,11 +23,6 @@ pub record FourAlike (bests others : List ℤ) (n : ℕ) : Type 0 where
   pub y : y_at bests n ≡ y_at others n
   pub sad : sad_at bests n ≡ sad_at others n
   pub average : average_at bests n ≡ average_at others n
-
-any_alike : (f g : ℕ → Bool) (n : ℕ) → ((i : ℕ) → i < n → f i ≡ g i) → any_upto f n ≡ any_upto g n
-unfolding any_upto
-any_alike f g zero h = refl
-any_alike f g (suc n) h = let rest = any_alike f g n (λ i l. h i (omega arith)) in let last = h n (omega arith) in rw (rest, last)
 
 module _ (nx ny : ℤ) (indices bests others : List ℤ) (diagonal : ℤ) (asked : Bool) (long : length bests ≡ length others)
     (alike : (n : ℕ) → n < length indices → FourAlike bests others n) where

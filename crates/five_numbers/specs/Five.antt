@@ -1,6 +1,6 @@
 -- 02, Two: "Each best gains a fifth number: how many reference samples at the reported vector (luma, and both chroma planes of a plain block) lie outside the
 -- data, or -1 for a block that wasn't bad." The first four are best's `best_of`, as they were. Definitions alone.
-use Rattle.std.specs.Prelude.{Bool, true, false, cond, List, ℕ, ◌+◌, ℤ, pos, negsuc}
+use Rattle.std.specs.Prelude.{Bool, true, false, cond, List, ℕ, ◌+◌, ℤ, pos, negsuc, None, Option, Some}
 use Rattle.records.specs.declared.Record.{Record}
 use Rattle.window.specs.Windows.{is_bad, is_negative}
 use Rattle.plane.specs.declared.Place.{Place}
@@ -9,18 +9,16 @@ use Rattle.tables.specs.Tables.{vector_offset}
 use Rattle.best.specs.declared.Task.{Task}
 use Rattle.best.specs.Best.{width_of, height_of, luma_reference, chroma_width, chroma_height, chroma_reference, best_of}
 use Rattle.five_numbers.specs.declared.Five.{Five}
-use Rattle.five_numbers.specs.declared.Absences.{Absences}
-use Rattle.five_numbers.specs.declared.Absences.TheVariants.{Counted, NotCompared}
 
 -- ---- a count, of a bad block alone
-abbrev pub absences_of : Bool → ℕ → Absences
-absences_of true absent = Counted (pos absent)
-absences_of false absent = NotCompared
+abbrev pub absences_of : Bool → ℕ → Option ℤ
+absences_of true absent = Some (pos absent)
+absences_of false absent = None
 
 -- "or -1 for a block that wasn't bad"
-unfoldable pub number_of : Absences → ℤ
-number_of (Counted absent) = absent
-number_of NotCompared = negsuc 0
+unfoldable pub number_of : Option ℤ → ℤ
+number_of (Some absent) = absent
+number_of None = negsuc 0
 
 module _ (task : Task) (given : Record) where
   -- ---- luma at a vector: over the sides compared, from the offset that its cost is taken from

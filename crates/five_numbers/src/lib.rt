@@ -8,21 +8,16 @@ ghost use Rattle.five_numbers.specs.Five.{luma_absent, chroma_absent, absent_at,
 ghost use Rattle.five_numbers.specs.Asked.{Aimed};
 
 use best::{Best, Task};
-use planes::{Planes, Sides};
+use plane_view::PlaneView;
+use planes::Samples;
 use records::Record;
 
-// How many samples lie outside the data. A block that isn't bad was compared with nothing, and has no
-// such number: not even 0.
-#[derive(Clone, Copy)]
-pub enum Absences {
-    Counted(i32),
-    NotCompared,
-}
-
+// A best, and how many samples lie outside the data. A block that isn't bad was compared with nothing,
+// and has no such number: not even 0.
 #[derive(Clone, Copy)]
 pub struct Five {
     pub best: Best,
-    pub outside: Absences,
+    pub outside: Option<i32>,
 }
 
 // Luma, over the sides that are compared.
@@ -31,105 +26,62 @@ fn luma_absent(task: Task, given: Record, x: i32, y: i32, reference_luma: &[u8])
     ensures { result ≡ luma_absent task given reference_luma.now x y }
 {
     let reference = best::luma_reference(task, given);
-    let place = reference.place;
-    let at = tables::vector_offset(reference_luma, reference, x, y);
+    let at = reference.vector_offset(reference_luma, x, y);
     let w = best::width_of(task, given);
     let h = best::height_of(task, given);
-    absent_reads::absent(reference_luma, place, at, w, h)
+    let view = PlaneView::new(reference_luma, reference.place);
+    absent_reads::absent(view, at, w, h)
 }
 
 // U and V, both from U's offset, each with its own pitch and against its own data.
-fn chroma_absent(
-    task: Task,
-    given: Record,
-    x: i32,
-    y: i32,
-    reference_u: &[u8],
-    reference_v: &[u8],
-) -> u32
+fn chroma_absent(task: Task, given: Record, x: i32, y: i32, reference: Samples) -> u32
     requires { Fair task given × Aimed x y }
-    ensures { result ≡ chroma_absent task given reference_u.now reference_v.now x y }
+    ensures { result ≡ chroma_absent task given reference.entry.u.now reference.entry.v.now x y }
 {
-    let reference = best::chroma_reference(task, given);
-    let at = tables::vector_offset(reference_u, reference, x, y);
-    let planes: Planes = task.reference;
-    let own_u = planes.u;
-    let own_v = planes.v;
-    let sides: Sides = task.block;
-    let full_w = sides.x;
-    let full_h = sides.y;
-    let shift = task.shift;
-    let w = best::chroma_side(full_w, shift);
-    let h = best::chroma_side(full_h, shift);
-    let in_u = absent_reads::absent(reference_u, own_u, at, w, h);
-    let in_v = absent_reads::absent(reference_v, own_v, at, w, h);
+    let at = best::chroma_reference(task, given).vector_offset(reference.u, x, y);
+    let places = task.reference;
+    let w = best::chroma_side(task.block.x, task.shift);
+    let h = best::chroma_side(task.block.y, task.shift);
+    let in_u = absent_reads::absent(PlaneView::new(reference.u, places.u), at, w, h);
+    let in_v = absent_reads::absent(PlaneView::new(reference.v, places.v), at, w, h);
     in_u + in_v
 }
 
 // A negative block has no chroma.
-fn absent_at(
-    task: Task,
-    given: Record,
-    x: i32,
-    y: i32,
-    reference_luma: &[u8],
-    reference_u: &[u8],
-    reference_v: &[u8],
-) -> u32
+fn absent_at(task: Task, given: Record, x: i32, y: i32, reference: Samples) -> u32
     requires { Fair task given × Aimed x y }
-    ensures { result ≡ absent_at task given reference_luma.now reference_u.now reference_v.now x y }
+    ensures { result ≡ absent_at task given reference.entry.luma.now reference.entry.u.now reference.entry.v.now x y }
 {
-    let luma = luma_absent(task, given, x, y, reference_luma);
+    let luma = luma_absent(task, given, x, y, reference.luma);
     if window::is_negative(given) {
-        return luma;
+        luma
+    } else {
+        luma + chroma_absent(task, given, x, y, reference)
     }
-    luma + chroma_absent(task, given, x, y, reference_u, reference_v)
 }
 
-pub fn five_of(
-    task: Task,
-    given: Record,
-    luma: &[u8],
-    u: &[u8],
-    v: &[u8],
-    reference_luma: &[u8],
-    reference_u: &[u8],
-    reference_v: &[u8],
-) -> Five
+pub fn five_of(task: Task, given: Record, source: Samples, reference: Samples) -> Five
     requires { Fair task given }
-    ensures { result ≡ five_of task given luma.now u.now v.now reference_luma.now reference_u.now reference_v.now }
+    ensures { result ≡ five_of task given source.entry.luma.now source.entry.u.now source.entry.v.now reference.entry.luma.now reference.entry.u.now reference.entry.v.now }
 {
-    let best = best::best_of(
-        task,
-        given,
-        luma,
-        u,
-        v,
-        reference_luma,
-        reference_u,
-        reference_v,
-    );
+    let best = best::best_of(task, given, source, reference);
     if window::is_bad(given) {
-        let x = best.x;
-        let y = best.y;
-        let absent = absent_at(task, given, x, y, reference_luma, reference_u, reference_v);
-        return Five {
-            best: best,
-            outside: Absences::Counted(absent as i32),
-        };
-    }
-    Five {
-        best: best,
-        outside: Absences::NotCompared,
+        let absent = absent_at(task, given, best.x, best.y, reference);
+        Five {
+            best,
+            outside: Some(absent as i32),
+        }
+    } else {
+        Five {
+            best,
+            outside: None,
+        }
     }
 }
 
 // The number that is lent for it: -1 where there is none.
-pub fn number_of(absences: Absences) -> i32
+pub fn number_of(absences: Option<i32>) -> i32
     ensures { result ≡ number_of absences }
 {
-    let Absences::Counted(absent) = absences else {
-        return -1;
-    };
-    absent
+    absences.unwrap_or(-1)
 }

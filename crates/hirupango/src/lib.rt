@@ -1,4 +1,5 @@
 // What a host calls: thin functions over the proved entries. hirupango_c exports them to C, and include/hirupango.h declares them.
+// Stays with slices apart and answers in numbers: so C calls them, and has no other type for either.
 #![tactic(auto)]
 
 ghost use Rattle.std.specs.Prelude.{◌≡◌, length};
@@ -17,7 +18,7 @@ ghost use Rattle.answer_bytes.specs.Slots.{slots_answer};
 use block::Settings;
 use evaluation::Request;
 use level_places::SuperFrame;
-use planning::Planned;
+use planes::Samples;
 
 // ---- one number
 pub fn hirupango_packed_score(
@@ -61,7 +62,8 @@ pub fn hirupango_block_cost(
     ensures number { result ≡ cost_number measure width height a.now a_pitch b.now b_pitch (length out.old) }
     ensures bytes { out.new ≡ cost_bytes measure width height a.now a_pitch b.now b_pitch out.old }
 {
-    answer_bytes::block_cost(measure, width, height, a, a_pitch, b, b_pitch, out)
+    let outcome = answer_bytes::block_cost(measure, width, height, a, a_pitch, b, b_pitch, out);
+    refusals::number(outcome)
 }
 
 // ---- a level
@@ -78,7 +80,13 @@ pub fn hirupango_level(
     ensures number { result ≡ given_number (level_answer frame (length luma.now) (length u.now) (length v.now) (length source_luma.now) (length source_u.now) (length source_v.now)) (length planes.old) }
     ensures placed { planes.new ≡ given_numbers (level_answer frame (length luma.now) (length u.now) (length v.now) (length source_luma.now) (length source_u.now) (length source_v.now)) planes.old }
 {
-    levels::level_numbers(frame, luma, u, v, source_luma, source_u, source_v, planes)
+    let packed = Samples { luma, u, v };
+    let source = Samples {
+        luma: source_luma,
+        u: source_u,
+        v: source_v,
+    };
+    refusals::number(levels::level_numbers(frame, packed, source, planes))
 }
 
 // ---- the pass
@@ -86,7 +94,7 @@ pub fn hirupango_serpentine_order(nx: i32, ny: i32, order: &mut [i32]) -> u32
     ensures number { result ≡ order_refusal nx ny (length order.old) }
     ensures filled { order.new ≡ order_after nx ny order.old }
 {
-    serpentine::serpentine_order(nx, ny, order)
+    refusals::number(serpentine::serpentine_order(nx, ny, order))
 }
 
 // On 0 slots and diagonal are what hirupango_slots and hirupango_diagonal give.
@@ -104,11 +112,11 @@ pub fn hirupango_plan(
     ensures planned { records.new ≡ plan_records settings order.now vectors.now (length luma.now) (length u.now) (length v.now) records.old (length indices.old) }
     ensures named { indices.new ≡ plan_indices settings order.now vectors.now (length luma.now) (length u.now) (length v.now) (length records.old) indices.old }
 {
-    let planned = planning::plan(settings, order, vectors, luma, u, v, records, indices);
-    let Planned::Refused(number) = planned else {
-        return 0;
-    };
-    number
+    let source = Samples { luma, u, v };
+    match planning::plan(settings, order, vectors, source, records, indices) {
+        Ok(_) => 0,
+        Err(refusal) => refusal.into(),
+    }
 }
 
 pub fn hirupango_evaluate(
@@ -125,17 +133,13 @@ pub fn hirupango_evaluate(
     ensures number { result ≡ evaluate_answer request records.now luma.now u.now v.now reference_luma.now reference_u.now reference_v.now (length bests.old) }
     ensures found { bests.new ≡ evaluate_bests request records.now luma.now u.now v.now reference_luma.now reference_u.now reference_v.now bests.old }
 {
-    evaluation::evaluate(
-        request,
-        records,
-        luma,
-        u,
-        v,
-        reference_luma,
-        reference_u,
-        reference_v,
-        bests,
-    )
+    let source = Samples { luma, u, v };
+    let reference = Samples {
+        luma: reference_luma,
+        u: reference_u,
+        v: reference_v,
+    };
+    refusals::number(evaluation::evaluate(request, records, source, reference, bests))
 }
 
 pub fn hirupango_finish(
@@ -152,7 +156,7 @@ pub fn hirupango_finish(
     ensures stored { vectors.new ≡ finish_vectors nx ny indices.now bests.now diagonal output_asked vectors.old (length output.old) }
     ensures written { output.new ≡ finish_output nx ny indices.now bests.now diagonal output_asked (length vectors.old) output.old }
 {
-    finishing::finish(
+    refusals::number(finishing::finish(
         nx,
         ny,
         indices,
@@ -161,5 +165,5 @@ pub fn hirupango_finish(
         output_asked,
         vectors,
         output,
-    )
+    ))
 }

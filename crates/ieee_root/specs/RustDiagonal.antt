@@ -4,14 +4,13 @@
 --
 -- What Rust's three steps mean is said in RustRoot. For every frame and pel that is accepted, some x is what `sqrt` gives, only that one, and the entry's
 -- answer is pel x the whole part of x. Another frame or pel is refused. Assumes nothing.
-use Rattle.std.specs.Prelude.{◌≡◌, refl, true, false, ◌+◌, ◌*◌, ◌≤◌, ℤ, pos, negsuc, nat_abs, ◌+ℤ◌, ◌*ℤ◌, Float}
+use Rattle.std.specs.Prelude.{◌≡◌, refl, true, false, ◌+◌, ◌*◌, ◌≤◌, ℤ, pos, negsuc, nat_abs, ◌+ℤ◌, ◌*ℤ◌, Float, None, Some}
 use Rattle.std.proofs.Common.{sym}
 use Rattle.std.proofs.Math.Path.{ap, subst}
 use Rattle.std.specs.Float.Ieee.{binary64, of_int, to_signed}
 use Rattle.whole.specs.Signed.{signed, abs_is}
 use Rattle.whole.specs.Truth.{three_of, lies_low, lies_high}
 use Rattle.limits.specs.Limits.{is_frame_side, is_pel}
-use Rattle.score.specs.declared.Answer.TheVariants.{Is, Refused}
 use Rattle.score.specs.Diagonal.{squared, diagonal_of, frame_fits, diagonal_answer}
 use Rattle.ieee_root.specs.SquareRoot.{IsSqrt}
 use Rattle.ieee_root.specs.RustRoot.{rust_diagonal_lem}
@@ -28,7 +27,7 @@ pub record DiagonalIsRusts (width height pel : ℤ) : Type 0 where
   pub x : Float
   pub is : IsSqrt binary64 (of_int binary64 (squares width height)) x
   pub only : (y : Float) → IsSqrt binary64 (of_int binary64 (squares width height)) y → y ≡ x
-  pub answer : diagonal_answer width height pel ≡ Is (rust_diagonal pel x)
+  pub answer : diagonal_answer width height pel ≡ Some (rust_diagonal pel x)
 
 -- ---- an accepted side, squared
 side_small : (side : ℤ) → is_frame_side side ≡ true → nat_abs side ≤ 16384
@@ -53,9 +52,9 @@ module _ (width height pel : ℤ) where
         x = root.x;
         is = subst (λ (f : Float). IsSqrt binary64 f root.x) v root.is;
         only = λ y s. root.only y (subst (λ (f : Float). IsSqrt binary64 f y) (sym v) s);
-        answer = rw fits (ap (λ (z : ℤ). Is (pel *ℤ z)) (sym root.cut));
+        answer = rw fits (ap (λ (z : ℤ). Some (pel *ℤ z)) (sym root.cut));
       }
 
-  pub no_other_diagonal : frame_fits width height pel ≡ false → diagonal_answer width height pel ≡ Refused
+  pub no_other_diagonal : frame_fits width height pel ≡ false → diagonal_answer width height pel ≡ None
   unfolding diagonal_answer
   no_other_diagonal e = rw e

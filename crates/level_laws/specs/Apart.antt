@@ -1,7 +1,7 @@
 -- 02, "One": "Areas of two levels of the same packed plane share no row where their rows fit the buffer." Here of two calls that were not refused, on one frame
 -- and the same bytes: no byte is in both levels' areas, and no sample inside the one is a sample inside the other. Both levels are packed: level 0 of a frame
 -- whose source lies apart is in bytes of its own. Assumes nothing.
-use Rattle.std.specs.Prelude.{◌≡◌, refl, ℕ, ◌*◌, ◌<◌, ℤ, pos, negsuc, nat_abs, length, ◌≤ℤ◌}
+use Rattle.std.specs.Prelude.{◌≡◌, refl, ℕ, ◌*◌, ◌<◌, ℤ, pos, negsuc, nat_abs, length, ◌≤ℤ◌, Ok}
 use Rattle.std.proofs.Common.{sym, ap, subst, ◌∙◌, arith}
 use Rattle.whole.specs.Signed.{signed}
 use Rattle.whole.specs.Truth.{lies_low}
@@ -16,7 +16,6 @@ use Rattle.level_places.specs.Levels.{place_of, unshifted, planes_of}
 use Rattle.level_places.specs.Areas.{at_level, Packed, Covers}
 use Rattle.level_places.specs.Apart.{packed_lies, no_byte_shared}
 use Rattle.level_places.specs.Sampled.{sample_covered}
-use Rattle.levels.specs.declared.Levelled.TheVariants.{Cut}
 use Rattle.levels.specs.Accepted.{Raw, Accepted, cut_means, raw_planes, pitch_holds, three}
 use Rattle.level_laws.specs.Asked.{Bytes, answer_of}
 
@@ -96,12 +95,12 @@ samples_apart {p} {q} lies-p lies-q apart x y x' y' in_p in-q same =
     apart b.0 (subst (Covers p) equal a.1.1) b.1.1
 
 -- ---- of two answers
-cut_three : (f : SuperFrame) (b : Bytes) (n : ℕ) {planes : Planes} → answer_of (at_level f n) b ≡ Cut planes → Three planes f.shift
+cut_three : (f : SuperFrame) (b : Bytes) (n : ℕ) {planes : Planes} → answer_of (at_level f n) b ≡ Ok planes → Three planes f.shift
 cut_three f b n e =
     let means = cut_means (at_level f n) _ _ _ _ _ _ e in
     rw means.1 (three (at_level f n) _ _ _ _ _ _ means.0)
 
-module _ (f : SuperFrame) (b : Bytes) (l m : ℕ) {p q : Planes} (first : answer_of (at_level f l) b ≡ Cut p) (second : answer_of (at_level f m) b ≡ Cut q)
+module _ (f : SuperFrame) (b : Bytes) (l m : ℕ) {p q : Planes} (first : answer_of (at_level f l) b ≡ Ok p) (second : answer_of (at_level f m) b ≡ Ok q)
     (packed-l : Packed f l) (packed-m : Packed f m) (other : l ≡ m → ⊥) where
   pub levels_apart : Each Apart p q
   levels_apart =

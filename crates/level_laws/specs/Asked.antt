@@ -1,8 +1,9 @@
 -- A level asked with six raw planes' bytes, and those bytes of them that its planes are cut from. Definitions alone.
-use Rattle.std.specs.Prelude.{cond, List, ℕ, length}
+use Rattle.refusals.specs.declared.Refusal.{Refusal}
+use Rattle.planes.specs.declared.Planes.{Planes}
+use Rattle.std.specs.Prelude.{cond, List, ℕ, length, Result}
 use Rattle.level_places.specs.declared.SuperFrame.{SuperFrame}
 use Rattle.level_places.specs.Levels.{from_source}
-use Rattle.levels.specs.declared.Levelled.{Levelled}
 use Rattle.levels.specs.Refusals.{level_answer}
 
 -- the packed planes, and the separate source's, which are not looked at where there is none
@@ -14,7 +15,7 @@ pub record Bytes : Type 0 where
   pub source_u : List ℕ
   pub source_v : List ℕ
 
-abbrev pub answer_of : SuperFrame → Bytes → Levelled
+abbrev pub answer_of : SuperFrame → Bytes → Result Planes Refusal
 answer_of f b =
     level_answer f (length b.luma) (length b.u) (length b.v) (length b.source_luma) (length b.source_u) (length b.source_v)
 

@@ -1,6 +1,6 @@
 -- 02, "One": "Demands 1 to 3 read on, with planes so made." Planes that `level` answers are taken by planning and evaluating: 3 is never given for them, and 2
 -- never for their numbers; and where a plan on them is done, so are evaluating and finishing. So every theorem of the pass speaks of them. Assumes nothing.
-use Rattle.std.specs.Prelude.{◌≡◌, Bool, false, ◌&&◌, cond, List, ℕ, ◌*◌, ◌≤◌, eqb, ℤ, pos, ◌+ℤ◌, ◌-ℤ◌, ◌*ℤ◌, length, take}
+use Rattle.std.specs.Prelude.{◌≡◌, Bool, false, ◌&&◌, cond, List, ℕ, ◌*◌, ◌≤◌, eqb, ℤ, pos, ◌+ℤ◌, ◌-ℤ◌, ◌*ℤ◌, length, take, Ok}
 use Rattle.std.proofs.Math.Path.{sym}
 use Rattle.std.proofs.Common.{ap, subst, ◌∙◌}
 use Rattle.std.proofs.Math.Bool.{true}
@@ -16,7 +16,6 @@ use Rattle.planes.specs.declared.Planes.{Planes}
 use Rattle.planes.specs.Planes.{planes_hold, holds3}
 use Rattle.level_places.specs.declared.SuperFrame.{SuperFrame}
 use Rattle.level_places.specs.Levels.{plane_size, level_pel, unshifted, planes_of}
-use Rattle.levels.specs.declared.Levelled.TheVariants.{Cut}
 use Rattle.levels.specs.Accepted.{Sized, SizedThree, Accepted, framed, pel_holds, all_sized, wide, tall, planes_hold_lem, kept_by, cut_means}
 use Rattle.block.specs.declared.Settings.{Settings}
 use Rattle.planning.specs.Refusals.{block_count, axis_holds, holds2, refusal_of}
@@ -60,7 +59,7 @@ module _ (f : SuperFrame) (b : Bytes) where
         sizes = all_sized f k.two k.ranged;
       }
 
-  pub good : {p : Planes} → answer_of f b ≡ Cut p → Good f b p
+  pub good : {p : Planes} → answer_of f b ≡ Ok p → Good f b p
   good e = let means = cut_means f _ _ _ _ _ _ e in subst (Good f b) (sym means.1) (good_of means.0)
 
 -- ---- planning: of 2 the planes' part is met
@@ -75,7 +74,7 @@ rest_holds s held =
     && is_pel s.level.pel
     && eqb held (3 * block_count s.grid)
 
-module _ (f : SuperFrame) (b : Bytes) (s : Settings) (cut : answer_of f b ≡ Cut s.planes) (shifts : s.shift ≡ f.shift) where
+module _ (f : SuperFrame) (b : Bytes) (s : Settings) (cut : answer_of f b ≡ Ok s.planes) (shifts : s.shift ≡ f.shift) where
   pub planning_2 : (held : ℕ) → holds2 s held ≡ rest_holds s held
   unfolding holds2 axis_holds
   planning_2 held =
@@ -118,7 +117,7 @@ module _ (f g : SuperFrame) (alike : Alike f g) where
       (same_of (a.height_is ∙ level_alike (λ z. z.y) shift.y ∙ sym b.height_is)))
       (same_of (pel_alike ∙ sym b.pel_is))
 
-  pub references_hold_lem : (b c : Bytes) {p r : Planes} → answer_of f b ≡ Cut p → answer_of g c ≡ Cut r → evaluation.references_hold (level_pel f) p r ≡ true
+  pub references_hold_lem : (b c : Bytes) {p r : Planes} → answer_of f b ≡ Ok p → answer_of g c ≡ Ok r → evaluation.references_hold (level_pel f) p r ≡ true
   unfolding evaluation.references_hold
   references_hold_lem b c {p} {r} source reference =
       let k = (good f b source).sizes in
@@ -127,8 +126,8 @@ module _ (f g : SuperFrame) (alike : Alike f g) where
       let v : Sized g f.shift r.v = rw alike.shift h.v in
       both_of (both_of (reference_holds_lem unshifted k.luma h.luma) (reference_holds_lem f.shift k.u u)) (reference_holds_lem f.shift k.v v)
 
-module _ (f g : SuperFrame) (alike : Alike f g) (b c : Bytes) (q : Request) (source : answer_of f b ≡ Cut q.source)
-    (reference : answer_of g c ≡ Cut q.reference) (shifts : q.shift ≡ f.shift) (pel : q.pel ≡ level_pel f) where
+module _ (f g : SuperFrame) (alike : Alike f g) (b c : Bytes) (q : Request) (source : answer_of f b ≡ Ok q.source)
+    (reference : answer_of g c ≡ Ok q.reference) (shifts : q.shift ≡ f.shift) (pel : q.pel ≡ level_pel f) where
   -- of 2 nothing is left to ask
   pub evaluating_2 : evaluation.holds2 q ≡ true
   unfolding evaluation.holds2
@@ -158,8 +157,8 @@ module _ (f g : SuperFrame) (alike : Alike f g) (b c : Bytes) (q : Request) (sou
         (simp ((good f b source).long, (good g c reference).long, and_false))
 
 -- ---- the whole pass: a plan that is done, and a reference frame beside it, are all that evaluating and finishing ask (whole_pass, ThreeCalls)
-module _ (f g : SuperFrame) (alike : Alike f g) (b c : Bytes) (s : Settings) (reference : Planes) (source-cut : answer_of f b ≡ Cut s.planes)
-    (reference-cut : answer_of g c ≡ Cut reference) (pel : s.level.pel ≡ level_pel f) where
+module _ (f g : SuperFrame) (alike : Alike f g) (b c : Bytes) (s : Settings) (reference : Planes) (source-cut : answer_of f b ≡ Ok s.planes)
+    (reference-cut : answer_of g c ≡ Ok reference) (pel : s.level.pel ≡ level_pel f) where
   pub referred : Referred s reference (length (luma_of g c)) (length (u_of g c)) (length (v_of g c))
   referred = record { alike = rw pel (references_hold_lem f g alike b c source-cut reference-cut); long = (good g c reference-cut).long }
 

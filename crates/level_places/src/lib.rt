@@ -10,7 +10,7 @@ ghost use Rattle.level_places.specs.Asked.{Rowed, Cuttable};
 use plane::Place;
 use planes::{Planes, Sides};
 
-// Laid out as C lays them out: a host hands a super frame over by value.
+// Stays numbers and flags, laid out as C lays them out: a host hands a super frame over by value.
 #[repr(C)]
 #[derive(Clone, Copy)]
 pub struct Pitches {
@@ -37,10 +37,8 @@ fn size_after(turns: usize, size: i32) -> i32
     ensures { result ≡ size_after turns size }
 {
     let mut s = size;
-    let mut n: usize = 0;
-    while n < turns {
+    for _ in 0..turns {
         s = 2 * (s / 4);
-        n += 1;
     }
     s
 }
@@ -67,17 +65,9 @@ fn finest_rows(frame: SuperFrame, shift: i32) -> usize
     ensures value { result ≡ finest_rows frame shift }
     ensures upper_bound { result ≤ 262144 }
 {
-    let sides = frame.frame;
-    let height = sides.y;
-    let pel = frame.pel;
-    let separate = frame.separate;
-    let subplanes = whole::size(pel) as usize * whole::size(pel) as usize;
-    let rows = subplanes * whole::size(limits::shifted(height, shift)) as usize;
-    let none: usize = 0;
-    if separate {
-        return none;
-    }
-    rows
+    let pel = whole::size(frame.pel) as usize;
+    let rows = pel * pel * whole::size(limits::shifted(frame.frame.y, shift)) as usize;
+    if frame.separate { 0 } else { rows }
 }
 
 fn level_rows(height: i32, shift: i32, lv: usize) -> usize
@@ -93,11 +83,10 @@ fn reduced_rows(height: i32, shift: i32, n: usize) -> usize
     ensures value { result ≡ reduced_rows height shift n }
     ensures upper_bound { result ≤ 32212254720 }
 {
-    let mut rows: usize = 0;
-    let mut lv: usize = 0;
-    while lv < n {
-        lv += 1;
-        rows += level_rows(height, shift, lv);
+    let mut rows = 0;
+    // Stays by number: the level is what its rows are worked out from.
+    for above in 0..n {
+        rows += level_rows(height, shift, above + 1);
     }
     rows
 }
@@ -107,14 +96,11 @@ pub fn level_offset(frame: SuperFrame, pitch: i32, shift: i32) -> usize
     requires within { Within 0 65536 pitch }
     ensures { result ≡ level_offset frame frame.level pitch shift }
 {
-    let level = frame.level;
-    let n = turns_of(level);
+    let n = turns_of(frame.level);
     if n == 0 {
         return 0;
     }
-    let sides = frame.frame;
-    let height = sides.y;
-    let rows = finest_rows(frame, shift) + reduced_rows(height, shift, n - 1);
+    let rows = finest_rows(frame, shift) + reduced_rows(frame.frame.y, shift, n - 1);
     rows * whole::size(pitch) as usize
 }
 
@@ -123,38 +109,23 @@ pub fn level_offset(frame: SuperFrame, pitch: i32, shift: i32) -> usize
 pub fn from_source(frame: SuperFrame) -> bool
     ensures { result ≡ from_source frame }
 {
-    let apart = frame.separate;
-    let level = frame.level;
-    apart & whole::within(level, 0, 0)
+    frame.separate & (frame.level == 0)
 }
 
 fn pel_of(frame: SuperFrame) -> i32
     ensures { result ≡ level_pel frame }
 {
-    let level = frame.level;
-    let pel = frame.pel;
-    if whole::within(level, 0, 0) {
-        return pel;
-    }
-    1
+    if frame.level == 0 { frame.pel } else { 1 }
 }
 
 fn cut_at(frame: SuperFrame, shift: Sides, base: usize, pitch: i32) -> Place
     ensures { result ≡ cut_at frame shift base pitch }
 {
-    let sides = frame.frame;
-    let level = frame.level;
-    let frame_w = sides.x;
-    let frame_h = sides.y;
-    let shift_x = shift.x;
-    let shift_y = shift.y;
-    let w = limits::shifted(plane_size(frame_w, level), shift_x);
-    let h = limits::shifted(plane_size(frame_h, level), shift_y);
     Place {
-        base: base,
-        pitch: pitch,
-        width: w,
-        height: h,
+        base,
+        pitch,
+        width: limits::shifted(plane_size(frame.frame.x, frame.level), shift.x),
+        height: limits::shifted(plane_size(frame.frame.y, frame.level), shift.y),
         pel: pel_of(frame),
     }
 }
@@ -167,8 +138,7 @@ fn place_of(frame: SuperFrame, shift: Sides, pitch: i32, source_pitch: i32) -> P
     if from_source(frame) {
         return cut_at(frame, shift, 0, source_pitch);
     }
-    let shift_y = shift.y;
-    let base = level_offset(frame, pitch, shift_y);
+    let base = level_offset(frame, pitch, shift.y);
     cut_at(frame, shift, base, pitch)
 }
 
@@ -176,21 +146,11 @@ pub fn planes_of(frame: SuperFrame) -> Planes
     requires { Cuttable frame }
     ensures { result ≡ planes_of frame }
 {
-    let shift = frame.shift;
-    let pitch = frame.pitch;
-    let source_pitch = frame.source_pitch;
-    let luma_pitch = pitch.luma;
-    let u_pitch = pitch.u;
-    let v_pitch = pitch.v;
-    let luma_source = source_pitch.luma;
-    let u_source = source_pitch.u;
-    let v_source = source_pitch.v;
-    let luma = place_of(frame, Sides { x: 0, y: 0 }, luma_pitch, luma_source);
-    let u = place_of(frame, shift, u_pitch, u_source);
-    let v = place_of(frame, shift, v_pitch, v_source);
+    let Pitches { luma, u, v } = frame.pitch;
+    let source = frame.source_pitch;
     Planes {
-        luma: luma,
-        u: u,
-        v: v,
+        luma: place_of(frame, Sides { x: 0, y: 0 }, luma, source.luma),
+        u: place_of(frame, frame.shift, u, source.u),
+        v: place_of(frame, frame.shift, v, source.v),
     }
 }

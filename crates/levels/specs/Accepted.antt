@@ -1,5 +1,6 @@
 -- What passing the tests says: a level that is not refused has planes that planning and evaluating take. Assumes nothing.
-use Rattle.std.specs.Prelude.{◌≡◌, Bool, ◌&&◌, ℤ, negsuc, ◌≤ℤ◌}
+use Rattle.refusals.specs.Laws.{done_means}
+use Rattle.std.specs.Prelude.{◌≡◌, Bool, ◌&&◌, ℤ, negsuc, ◌≤ℤ◌, Ok}
 use Rattle.std.proofs.Math.Path.{refl, subst}
 use Rattle.std.proofs.Common.{sym, ap, ◌∙◌, ⊎_elim, arith}
 use Rattle.std.proofs.Math.Bool.{true, false, not, cond}
@@ -23,21 +24,7 @@ use Rattle.level_places.specs.Levels.{size_after, turns_of, plane_size, is_fines
 use Rattle.level_places.specs.Sizes.{size_natural, never_grows, two_or_more, gone}
 use Rattle.level_places.specs.Areas.{Packed}
 use Rattle.level_places.specs.Asked.{Cuttable}
-use Rattle.levels.specs.declared.Levelled.{Levelled}
-use Rattle.levels.specs.declared.Levelled.TheVariants.{Cut, Refused}
-use Rattle.levels.specs.Refusals.{
-  pitches_hold,
-  raw_pitches_hold,
-  holds2,
-  has_sides,
-  all_have_sides,
-  holds9,
-  lengths_kept,
-  refusal_of,
-  answered,
-  level_answer,
-  level_number,
-}
+use Rattle.levels.specs.Refusals.{pitches_hold, raw_pitches_hold, holds2, has_sides, all_have_sides, holds9, lengths_kept, refusal_of, level_answer}
 use Rattle.levels.specs.Asked.{BasesFit}
 
 -- ---- pitches
@@ -326,17 +313,9 @@ module _ (f : SuperFrame) (luma u v source_luma source_u source_v : ℕ) where
       }
 
   -- three planes are answered where no number applies, and they are the level's
-  abbrev cut_by : Planes → Levelled → Planes
-  cut_by other (Cut planes) = planes
-  cut_by other (Refused n) = other
-
-  cut_at_lem : (n : ℕ) {made planes : Planes} → answered n made ≡ Cut planes → (n ≡ 0) × (planes ≡ made)
-  cut_at_lem zero {made} e = (refl, sym (ap (cut_by made) e))
-  cut_at_lem (suc n) e = let none : suc n ≡ 0 = ap level_number e in absurd (omega arith)
-
-  pub cut_means : {planes : Planes} → level_answer f luma u v source_luma source_u source_v ≡ Cut planes → Accepted × (planes ≡ planes_of f)
+  pub cut_means : {planes : Planes} → level_answer f luma u v source_luma source_u source_v ≡ Ok planes → Accepted × (planes ≡ planes_of f)
   unfolding level_answer
-  cut_means e = let both = cut_at_lem (refusal_of f luma u v source_luma source_u source_v) e in (accepted both.0, both.1)
+  cut_means e = let both = done_means (refusal_of f luma u v source_luma source_u source_v) e in (accepted both.0, both.1)
 
   -- 3 does not refuse them with the bytes that they are cut from
   pub kept_by : Accepted → (Q : Type 0) → (from_source f ≡ true → holds3 (planes_of f) source_luma source_u source_v ≡ true → Q) →

@@ -1,6 +1,8 @@
 -- When a level is refused: 02, "One": "9 when the level is outside 0 to 15 or a side comes to 0, asked between 2 and 3". Each `holds` says that a number
 -- does not apply. Definitions alone.
-use Rattle.std.specs.Prelude.{Bool, ◌&&◌, not, cond, ℕ, zero, suc, ℤ, pos}
+use Rattle.refusals.specs.declared.Refusal.{Refusal}
+use Rattle.refusals.specs.Numbers.{answered, answer_number}
+use Rattle.std.specs.Prelude.{Bool, ◌&&◌, not, cond, ℕ, ℤ, pos, Result}
 use Rattle.whole.specs.Numbers.{lies_in}
 use Rattle.limits.specs.Limits.{same, is_frame_side, is_pel, are_shifts, is_pitch, shifted_by}
 use Rattle.limits.specs.Refusals.{first}
@@ -11,8 +13,6 @@ use Rattle.planes.specs.Planes.{holds3}
 use Rattle.level_places.specs.declared.Pitches.{Pitches}
 use Rattle.level_places.specs.declared.SuperFrame.{SuperFrame}
 use Rattle.level_places.specs.Levels.{plane_size, from_source, planes_of}
-use Rattle.levels.specs.declared.Levelled.{Levelled}
-use Rattle.levels.specs.declared.Levelled.TheVariants.{Cut, Refused}
 
 -- ---- 2: "another number outside the limits". It does not look at the level.
 -- "Pitch from the plane's width to 65,536", of three raw planes whose widest level is so wide
@@ -51,15 +51,10 @@ module _ (f : SuperFrame) (luma u v source_luma source_u source_v : ℕ) where
   unfoldable pub refusal_of : ℕ
   refusal_of = first (not (holds2 f)) 2 (first (not (holds9 f)) 9 (first (not (lengths_kept (planes_of f))) 3 0))
 
--- on 0 the three planes, else the number
-abbrev pub answered : ℕ → Planes → Levelled
-answered zero planes = Cut planes
-answered (suc n) planes = Refused (suc n)
-
-unfoldable pub level_answer : SuperFrame → ℕ → ℕ → ℕ → ℕ → ℕ → ℕ → Levelled
+-- ---- the three planes, or the refusal
+unfoldable pub level_answer : SuperFrame → ℕ → ℕ → ℕ → ℕ → ℕ → ℕ → Result Planes Refusal
 level_answer f luma u v source_luma source_u source_v = answered (refusal_of f luma u v source_luma source_u source_v) (planes_of f)
 
 -- the number of an answer
-abbrev pub level_number : Levelled → ℕ
-level_number (Cut planes) = 0
-level_number (Refused n) = n
+abbrev pub level_number : Result Planes Refusal → ℕ
+level_number = answer_number

@@ -1,12 +1,16 @@
 -- The refusals of a level, number by number: each is given exactly where its own test does not hold and all before it do. Assumes nothing.
 use Rattle.std.specs.Prelude.{◌≡◌, Bool, true, false, ◌&&◌, not, eqb, leb}
 use Rattle.std.proofs.Math.Path.{refl}
-use Prim.Native.Nat.{ℕ, zero, suc}
+use Prim.Native.Nat.{ℕ}
+use Rattle.std.proofs.Common.{arith}
 use Rattle.limits.specs.Refusals.{first}
+use Rattle.limits.specs.Refused.{first_most}
 use Rattle.planes.specs.declared.Planes.{Planes}
 use Rattle.level_places.specs.declared.SuperFrame.{SuperFrame}
 use Rattle.level_places.specs.Levels.{planes_of}
-use Rattle.levels.specs.Refusals.{holds2, holds9, lengths_kept, refusal_of, answered, level_answer, level_number}
+use Rattle.levels.specs.Refusals.{holds2, holds9, lengths_kept, refusal_of, level_answer, level_number}
+use Rattle.refusals.specs.Numbers.{answered}
+use Rattle.refusals.specs.Laws.{number_back}
 use Rattle.levels.specs.Numbers.{numbers_per_level, given_number}
 
 -- a number, by the four tests in their order: where each of them refuses
@@ -37,9 +41,9 @@ module _ (f : SuperFrame) (luma u v source_luma source_u source_v : ℕ) where
 
   -- the number of the answer itself
   pub number_of_answer : level_number (level_answer f luma u v source_luma source_u source_v) ≡ refusal_of f luma u v source_luma source_u source_v
-  unfolding level_answer
-  number_of_answer = go (refusal_of f luma u v source_luma source_u source_v)
-    where
-      go : (n : ℕ) → level_number (answered n (planes_of f)) ≡ n
-      go zero = refl
-      go (suc n) = refl
+  unfolding level_answer refusal_of
+  number_of_answer =
+      number_back (planes_of f) (refusal_of f luma u v source_luma source_u source_v)
+      (first_most (not (holds2 f)) (omega arith)
+      (first_most (not (holds9 f)) (omega arith)
+      (first_most (not (lengths_kept f luma u v source_luma source_u source_v (planes_of f))) (omega arith) (omega arith))))

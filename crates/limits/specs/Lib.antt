@@ -3,3 +3,4 @@ pub mod Sizes
 pub mod Refusals
 pub mod Refused
 pub mod Ranges
+pub mod Equal

@@ -1,14 +1,17 @@
 -- What Refusals says: a test asked of n things one after the other, and a table taken apart from its front. Assumes nothing.
-use Rattle.std.specs.Prelude.{◌≡◌, Bool, true, false, ◌&&◌, ◌||◌, not, List}
+use Rattle.std.specs.Prelude.{◌≡◌, Bool, true, false, ◌&&◌, ◌||◌, not, List, Ok, Err}
 use Rattle.std.proofs.Math.Path.{refl, subst}
 use Rattle.std.proofs.Common.{sym, ap, ◌∙◌}
 use Rattle.std.proofs.Math.Logic.{⊎_elim}
-use Prim.Native.Nat.{ℕ, zero, suc, ◌+◌, ◌<◌}
+use Prim.Native.Nat.{ℕ, zero, suc, ◌+◌, ◌<◌, ◌≤◌}
 use Rattle.std.proofs.Math.Numerals.{add-one}
 use native.Mathlib.Omega.{arith}
 use Rattle.std.proofs.lemmas.Bool.{not-true, not-false}
 use Rattle.whole.specs.Signed.{holds, lt_or_ge}
 use Rattle.whole.specs.Truth.{either_of}
+use Rattle.refusals.specs.declared.Refusal.{Refusal}
+use Rattle.refusals.specs.Numbers.{answered}
+use Rattle.refusals.specs.Laws.{done_on_0, refused_above_0}
 use Rattle.limits.specs.Refusals.{first, any_upto, kept}
 
 -- ---- tests joined by `||` of which none holds
@@ -58,6 +61,12 @@ module _ (test : ℕ → Bool) where
   none_passes zero h = refl
   none_passes (suc n) h = rw (none_passes n (λ i l. h i (omega arith)), h n (omega arith))
 
+-- two tests that are alike of each of n things
+pub any_alike : (f g : ℕ → Bool) (n : ℕ) → ((i : ℕ) → i < n → f i ≡ g i) → any_upto f n ≡ any_upto g n
+unfolding any_upto
+any_alike f g zero h = refl
+any_alike f g (suc n) h = let rest = any_alike f g n (λ i l. h i (omega arith)) in let last = h n (omega arith) in rw (rest, last)
+
 -- ---- a test that holds of each of n things: none of them is one of which it doesn't
 module _ (test : ℕ → Bool) where
   abbrev pub Fails : ℕ → Bool
@@ -86,6 +95,11 @@ first_passed false n rest e = (refl, e)
 pub let_through : (holds : Bool) (n rest : ℕ) → first (not holds) (1 + n) rest ≡ 0 → (holds ≡ true) × (rest ≡ 0)
 let_through holds n rest e = let both = first_passed (not holds) n rest e in (not-false holds both.0, both.1)
 
+-- ---- no number of a table is above the highest that it has
+pub first_most : {number rest most : ℕ} (test : Bool) → number ≤ most → rest ≤ most → first test number rest ≤ most
+first_most true h r = h
+first_most false h r = r
+
 -- ---- a lent buffer, by the number
 module _ {A : Type 0} (number : ℕ) (written held : List A) where
   pub kept_done : number ≡ 0 → kept number written held ≡ written
@@ -97,3 +111,10 @@ module _ {A : Type 0} (number : ℕ) (written held : List A) where
       go : (n : ℕ) → 0 < n → kept n written held ≡ held
       go zero l = absurd (omega arith)
       go (suc n) l = refl
+
+  -- and by the answer
+  pub kept_ok : {X : Type 0} (done : X) {given : X} → Ok given ≡ answered number done → kept number written held ≡ written
+  kept_ok done e = kept_done (done_on_0 done _ number e)
+
+  pub kept_err : {X : Type 0} (done : X) {refusal : Refusal} → Err refusal ≡ answered number done → kept number written held ≡ held
+  kept_err done e = kept_refused (refused_above_0 done _ number e)

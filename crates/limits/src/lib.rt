@@ -3,7 +3,11 @@
 
 ghost use Rattle.std.specs.Prelude.{◌≡◌, ◌≤◌};
 ghost use Rattle.whole.specs.Interval.{Within};
+ghost use Rattle.refusals.specs.Numbers.{outcome};
 ghost use Rattle.limits.specs.Limits.{is_block, is_grid_side, is_step, is_frame_side, is_pel, are_shifts, shifted_by, is_pitch, is_length, blocks_of, radius_of};
+ghost use Rattle.limits.specs.Refusals.{sides_refusal};
+
+use refusals::Refusal;
 
 // Named, so that a record that grows is changed in one place.
 pub const WORDS_PER_RECORD: usize = 12;
@@ -16,6 +20,19 @@ pub fn is_grid_side(side: i32) -> bool
     ensures { result ≡ is_grid_side side }
 {
     whole::within(side, 2, 2048)
+}
+
+// A grid's two sides, by the table: one that is too small goes before one that is too large.
+pub fn check_sides(nx: i32, ny: i32) -> Result<(), Refusal>
+    ensures { result ≡ outcome (sides_refusal nx ny) }
+{
+    if nx < 2 || ny < 2 {
+        return Err(Refusal::Setting);
+    }
+    if 2048 < nx || 2048 < ny {
+        return Err(Refusal::Limit);
+    }
+    Ok(())
 }
 
 pub fn is_step(side: i32, step: i32) -> bool
@@ -33,17 +50,13 @@ pub fn is_frame_side(side: i32) -> bool
 pub fn is_pel(pel: i32) -> bool
     ensures { result ≡ is_pel pel }
 {
-    whole::within(pel, 1, 1) | whole::within(pel, 2, 2) | whole::within(pel, 4, 4)
+    matches!(pel, 1 | 2 | 4)
 }
 
 pub fn are_shifts(x: i32, y: i32) -> bool
     ensures { result ≡ are_shifts x y }
 {
-    let x_0 = whole::within(x, 0, 0);
-    let x_1 = whole::within(x, 1, 1);
-    let y_0 = whole::within(y, 0, 0);
-    let y_1 = whole::within(y, 1, 1);
-    x_0 & y_0 | x_1 & y_0 | x_1 & y_1
+    matches!((x, y), (0, 0) | (1, 0) | (1, 1))
 }
 
 pub fn is_pitch(width: i32, pitch: i32) -> bool
@@ -61,19 +74,14 @@ pub fn is_length(length: usize) -> bool
 pub fn is_block(width: i32, height: i32) -> bool
     ensures { result ≡ is_block width height }
 {
-    let high_8 = whole::within(height, 8, 8);
-    let high_16 = whole::within(height, 16, 16);
-    whole::within(width, 8, 8) & high_8 | whole::within(width, 16, 16) & (high_8 | high_16)
+    matches!((width, height), (8, 8) | (16, 8) | (16, 16))
 }
 
 // A number shifted right by a chroma shift.
 pub fn shifted(z: i32, shift: i32) -> i32
     ensures { result ≡ shifted_by z shift }
 {
-    if shift < 1 {
-        return z;
-    }
-    z >> 1
+    if shift < 1 { z } else { z >> 1 }
 }
 
 // The blocks of a grid, whatever its sides are.
@@ -87,5 +95,5 @@ pub fn radius_of(search_param: i32) -> i32
     requires { Within 3 3 search_param }
     ensures { result ≡ radius_of search_param }
 {
-    whole::size(search_param) as i32
+    search_param.abs()
 }

@@ -1,4 +1,3 @@
 pub mod Bytes
-pub mod Stores
 pub mod Undone
 pub mod WordsRead

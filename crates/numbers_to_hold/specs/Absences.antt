@@ -1,7 +1,6 @@
 -- 02, "Two", as numbers: at pel 2 a plane of 16x16 whose data end behind the first subplane, and a block of 8x8 at (0,0). Each row counts what is absent at a
 -- vector. Definitions alone; the theorem is Table's.
-use Rattle.std.specs.Prelude.{false, List, [], ◌∷◌, ℕ, ℤ, pos, negsuc, replicate}
-use Rattle.records.specs.declared.Offset.TheVariants.{Absent}
+use Rattle.std.specs.Prelude.{false, List, [], ◌∷◌, ℕ, ℤ, pos, negsuc, replicate, None}
 use Rattle.records.specs.declared.Pair.{Pair}
 use Rattle.records.specs.declared.Record.{Record}
 use Rattle.window.specs.Windows.{is_bad}
@@ -36,11 +35,11 @@ task =
 abbrev given : ℤ → Record
 given flags =
     record {
-      full = Absent;
-      overlay = Absent;
-      u = Absent;
-      v = Absent;
-      average = Absent;
+      full = None;
+      overlay = None;
+      u = None;
+      v = None;
+      average = None;
       pos = pair (pos 0) (pos 0);
       cpos = pair (pos 0) (pos 0);
       predictor = pair (pos 0) (pos 0);

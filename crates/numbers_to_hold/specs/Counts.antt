@@ -1,9 +1,10 @@
 -- 02, "Three", as numbers: what the header says of a plan file with two records that are searched, one for each way in which a window can be empty, and two
 -- that aren't BAD. Definitions alone; the theorem is Table's.
-use Rattle.std.specs.Prelude.{List, [], ◌∷◌, ◌++◌, ℕ, ℤ, pos, negsuc}
+use Rattle.std.specs.Prelude.{List, [], ◌∷◌, ◌++◌, ℕ, ℤ, pos, negsuc, Result, Ok, Err}
 use Rattle.records.specs.Packing.{absent_word}
-use Rattle.plan_file.specs.declared.Plan.{Plan}
-use Rattle.plan_file.specs.declared.Plan.TheVariants as plan
+use Rattle.refusals.specs.declared.Refusal.{Refusal}
+use Rattle.refusals.specs.Numbers.{number_of}
+use Rattle.plan_file.specs.declared.Head.{Head}
 use Rattle.plan_file.specs.PlanFile.{plan_of}
 use Rattle.plan_file.specs.Examples.{as_bytes}
 use Rattle.numbers_to_hold.specs.Rows.{Row, is}
@@ -43,9 +44,9 @@ file =
     ++ (pos 384 ∷ pos 8 ∷ pos 8 ∷ pos 8 ∷ pos 2 ∷ pos 1 ∷ pos 0 ∷ pos 1 ∷ []))
 
 -- blocks, searched and kept of an accepted file
-abbrev counted : Plan → List ℤ
-counted (plan.Accepted head) = head.count ∷ head.searched ∷ head.kept ∷ []
-counted (plan.Refused number) = pos number ∷ []
+abbrev counted : Result Head Refusal → List ℤ
+counted (Ok head) = head.count ∷ head.searched ∷ head.kept ∷ []
+counted (Err refusal) = pos (number_of refusal) ∷ []
 
 unfoldable pub of_counts : List Row
 of_counts =

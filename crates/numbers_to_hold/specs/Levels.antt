@@ -1,19 +1,20 @@
 -- 02, "One", as numbers: a frame of 10x10 at pel 2 with shifts (1,1) and pitch 16, its levels, and each refusal. A row gives the definition that an entry's
 -- contract cites a smallest input. Definitions alone; the theorem is Table's.
-use Rattle.std.specs.Prelude.{Bool, true, false, List, [], ◌∷◌, ℕ, ℤ, pos, negsuc}
+use Rattle.refusals.specs.declared.Refusal.{Refusal}
+use Rattle.planes.specs.declared.Planes.{Planes}
+use Rattle.refusals.specs.Numbers.{number_of}
+use Rattle.std.specs.Prelude.{Bool, true, false, List, [], ◌∷◌, ℕ, ℤ, pos, negsuc, Err, Ok, Result}
 use Rattle.level_places.specs.declared.Pitches.{Pitches}
 use Rattle.level_places.specs.declared.SuperFrame.{SuperFrame}
 use Rattle.level_places.specs.Levels.{plane_size}
-use Rattle.levels.specs.declared.Levelled.{Levelled}
-use Rattle.levels.specs.declared.Levelled.TheVariants.{Cut, Refused}
 use Rattle.levels.specs.Refusals.{level_answer}
 use Rattle.levels.specs.Numbers.{planes_numbers, given_number}
 use Rattle.numbers_to_hold.specs.Rows.{Row, is}
 
 -- an answer as numbers: 0 and the fifteen, or the refusal's alone
-abbrev listed : Levelled → List ℤ
-listed (Cut planes) = pos 0 ∷ planes_numbers planes
-listed (Refused n) = pos n ∷ []
+abbrev listed : Result Planes Refusal → List ℤ
+listed (Ok planes) = pos 0 ∷ planes_numbers planes
+listed (Err refusal) = pos (number_of refusal) ∷ []
 
 abbrev pitches : ℤ → Pitches
 pitches pitch = record { luma = pitch; u = pitch; v = pitch }
@@ -31,10 +32,10 @@ frame pel level pitch separate =
     }
 
 -- packed planes of so many bytes, luma's and chroma's, and a source of so many
-abbrev level : SuperFrame → ℕ → ℕ → ℕ → ℕ → Levelled
+abbrev level : SuperFrame → ℕ → ℕ → ℕ → ℕ → Result Planes Refusal
 level f luma chroma source sourceChroma = level_answer f luma chroma chroma source sourceChroma sourceChroma
 
-abbrev packed : ℤ → Levelled
+abbrev packed : ℤ → Result Planes Refusal
 packed n = level (frame (pos 2) n (pos 16) false) 722 353 0 0
 
 abbrev sizes : ℤ → List ℤ

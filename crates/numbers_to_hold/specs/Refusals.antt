@@ -13,8 +13,9 @@ use Rattle.planning.specs.Refusals as planning
 use Rattle.evaluation.specs.declared.Request.{Request}
 use Rattle.evaluation.specs.Refusals as evaluation
 use Rattle.finishing.specs.Finish.{finish_answer}
-use Rattle.plan_file.specs.PlanFile.{plan_of, plan_number}
-use Rattle.plan_lines.specs.Report.{head_answer, line_answer, written_number}
+use Rattle.refusals.specs.Numbers.{answer_number}
+use Rattle.plan_file.specs.PlanFile.{plan_of}
+use Rattle.plan_lines.specs.Report.{head_answer, line_answer}
 use Rattle.plan_file.specs.Examples.{as_bytes}
 use Rattle.answer_bytes.specs.BlockCost.{cost_number}
 use Rattle.answer_bytes.specs.Word.{word_number}
@@ -93,10 +94,10 @@ abbrev file : ℤ → List ℕ
 file greatest = as_bytes (window greatest) ++ as_bytes (pos 48 ∷ pos 1 ∷ pos 8 ∷ pos 8 ∷ pos 2 ∷ pos 1 ∷ pos 0 ∷ pos 1 ∷ [])
 
 abbrev head : ℤ → ℕ → ℕ
-head greatest room = written_number (head_answer (file greatest) room)
+head greatest room = answer_number (head_answer (file greatest) room)
 
 abbrev line : ℤ → ℕ → ℕ → ℕ
-line greatest number room = written_number (line_answer (file greatest) number room)
+line greatest number room = answer_number (line_answer (file greatest) number room)
 
 -- ---- a cost of two blocks of 4x4, SAD
 abbrev cost : ℤ → ℤ → ℤ → ℕ → ℕ → ℕ
@@ -110,7 +111,7 @@ refusals =
     ∷ gives (evaluate (pos 8) (pos 1) (window (pos 2)) 256) 0
     ∷ gives (finish (pos 2) (pos 0) (pos 0) (pos 1) 8) 0
     ∷ gives (order_refusal (pos 2) (pos 2) 8) 0
-    ∷ gives (plan_number (plan_of (file (pos 2)))) 0
+    ∷ gives (answer_number (plan_of (file (pos 2)))) 0
     ∷ gives (head (pos 2) 56) 0
     ∷ gives (line (pos 2) 0 131) 0
     -- "1: search not exhaustive, another block size, a grid side below 2, order length not the block count, or radius over 3"
@@ -160,17 +161,17 @@ refusals =
     ∷ gives (evaluate (pos 8) (pos 1) wide 256) 7
     ∷ gives (finish (pos 2) (pos 0) (pos 32768) (pos 1) 8) 7
     -- "8: a plan file's trailer breaks its rules, or the file is under 32 .. bytes"
-    ∷ gives (plan_number (plan_of [])) 8
-    ∷ gives (plan_number (plan_of (replicate 32 0))) 8
+    ∷ gives (answer_number (plan_of [])) 8
+    ∷ gives (answer_number (plan_of (replicate 32 0))) 8
     -- "If several apply, the lowest is given; a file is asked for 8 first": of a file with a window of 9x1 a line that is too short is 5, and one that is long
     -- enough 7: the header has 56 bytes since 02, Three, in place of 49; a record that isn't there is 4
-    ∷ gives (plan_number (plan_of (file (pos 8)))) 7
+    ∷ gives (answer_number (plan_of (file (pos 8)))) 7
     ∷ gives (head (pos 8) 55) 5
     ∷ gives (head (pos 8) 56) 7
     ∷ gives (line (pos 8) 1 1) 4
     ∷ gives (line (pos 8) 0 1) 5
     ∷ gives (line (pos 8) 0 131) 7
-    ∷ gives (written_number (head_answer [] 0)) 8
+    ∷ gives (answer_number (head_answer [] 0)) 8
     -- "Packed score answers 2 for a component beyond i16 or a diagonal of 0 or less"; "(shorter: 5)"
     ∷ gives (word_number 2 (score_answer (pos 32768) (pos 0) (pos 0) (pos 1) (pos 0)) 4) 2
     ∷ gives (word_number 2 (score_answer (pos 0) (pos 0) (pos 0) (pos 0) (pos 0)) 4) 2

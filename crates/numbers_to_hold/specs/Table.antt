@@ -1,18 +1,13 @@
 -- 01, "Numbers to hold on to": every line marked P, in the paper's order, as one table. A row is what a definition gives, as numbers, and the numbers that the
 -- paper has; the one theorem at the end says that each row's two sides are equal, by computation. Assumes nothing.
-use Rattle.std.specs.Prelude.{refl, true, false, List, [], ◌∷◌, ◌++◌, ℕ, zero, suc, ℤ, pos, negsuc}
+use Rattle.std.specs.Prelude.{refl, true, false, List, [], ◌∷◌, ◌++◌, ℕ, zero, suc, ℤ, pos, negsuc, None, Option, Some}
 use Rattle.whole.specs.Numbers.{root_of}
 use Rattle.records.specs.declared.Pair.{Pair}
-use Rattle.records.specs.declared.PackedPair.{PackedPair}
-use Rattle.records.specs.declared.PackedPair.TheVariants as pair_answers
-use Rattle.records.specs.declared.Packed.{Packed}
-use Rattle.records.specs.declared.Packed.TheVariants as record_answers
+use Rattle.records.specs.declared.Words.{Words}
 use Rattle.records.specs.Packing.{packed_pair, record_fits, record_words, packed_record}
 use Rattle.records.specs.Examples.{listed}
 use Rattle.serpentine.specs.Walk.{each, row, walk, numbers}
 use Rattle.distance.specs.Distance.{Block, sum, sum_z, hadamard_at, tile_sum, sad, satd}
-use Rattle.score.specs.declared.Answer.{Answer}
-use Rattle.score.specs.declared.Answer.TheVariants.{Is, Refused}
 use Rattle.score.specs.Diagonal.{diagonal_of, diagonal_answer}
 use Rattle.score.specs.Score.{output_word, packed_score, score_answer}
 use Rattle.plane.specs.declared.Place.{Place}
@@ -50,18 +45,18 @@ use Rattle.numbers_to_hold.specs.Absences.{of_absences}
 use Rattle.numbers_to_hold.specs.Counts.{of_counts}
 
 -- ---- answers as numbers: 01's number, and the values where it is 0
-abbrev pair_answer : PackedPair → List ℤ
-pair_answer (pair_answers.Fits word) = pos 0 ∷ word ∷ []
-pair_answer pair_answers.Misfit = pos 6 ∷ []
+abbrev pair_answer : Option ℤ → List ℤ
+pair_answer (Some word) = pos 0 ∷ word ∷ []
+pair_answer None = pos 6 ∷ []
 
 -- of a record, its last word
-abbrev last_answer : Packed → List ℤ
-last_answer (record_answers.Fits words) = pos 0 ∷ words.last ∷ []
-last_answer record_answers.Misfit = pos 6 ∷ []
+abbrev last_answer : Option Words → List ℤ
+last_answer (Some words) = pos 0 ∷ words.last ∷ []
+last_answer None = pos 6 ∷ []
 
-abbrev value_answer : Answer → List ℤ
-value_answer (Is value) = pos 0 ∷ value ∷ []
-value_answer Refused = pos 2 ∷ []
+abbrev value_answer : Option ℤ → List ℤ
+value_answer (Some value) = pos 0 ∷ value ∷ []
+value_answer None = pos 2 ∷ []
 
 -- ---- what the lines speak of
 -- lambda of a plain block, and of a negative one

@@ -8,9 +8,11 @@ ghost use Rattle.std.specs.Prelude.{◌<◌};
 use block::{Level, Search, Settings, Weights};
 use evaluation::Request;
 use plane::Place;
-use planes::{Planes, Sides};
-use planning::Planned;
+use planes::{Planes, Samples, Sides};
+use planning::Made;
 use records::{Offset, Pair, Record};
+use refusals::Refusal;
+use report_text::Text;
 
 // ---- the frames: 48x32, with a bar 16 wide that stands 2 further right in the reference, and black
 // from column 40 on
@@ -48,31 +50,31 @@ fn chroma_sample(x: usize, left: usize) -> u8 {
 
 fn luma_plane(left: usize) -> [u8; 1536] {
     let mut out = [0u8; 1536];
-    for i in 0..1536 {
-        out[i] = luma_sample(i % 48, i / 48, left);
+    for (i, sample) in out.iter_mut().enumerate() {
+        *sample = luma_sample(i % 48, i / 48, left);
     }
     out
 }
 
 fn chroma_plane(left: usize) -> [u8; 384] {
     let mut out = [0u8; 384];
-    for i in 0..384 {
-        out[i] = chroma_sample(i % 24 * 2, left);
+    for (i, sample) in out.iter_mut().enumerate() {
+        *sample = chroma_sample(i % 24 * 2, left);
     }
     out
 }
 
 // ---- the numbers
 fn sides(x: i32, y: i32) -> Sides {
-    Sides { x: x, y: y }
+    Sides { x, y }
 }
 
 fn place(width: i32, height: i32) -> Place {
     Place {
         base: 0,
         pitch: width,
-        width: width,
-        height: height,
+        width,
+        height,
         pel: 1,
     }
 }
@@ -159,17 +161,17 @@ fn predictors() -> [i32; 72] {
 }
 
 // ---- the text
+// Stays with write_all: each line is a fixed text, and what varies in it is put by a `Text`, so that a
+// writer beside would be no plainer.
 fn spaces(count: usize) {
-    let mut left = count;
-    while 0 < left {
+    for _ in 0..count {
         io::write_all(1, b" ");
-        left -= 1;
     }
 }
 
-fn refused(number: u32) {
+fn refused(refusal: Refusal) {
     io::write_all(1, b"refused ");
-    io::print_decimal(1, number as u64);
+    io::print_decimal(1, u32::from(refusal) as u64);
     io::write_all(1, b"\n");
 }
 
@@ -182,23 +184,20 @@ fn at_right(text: &[u8], width: usize) {
 }
 
 fn show_pair(x: i32, y: i32, width: usize) {
-    let mut line = [0u8; 24];
-    let n = report_text::put_two(&mut line, 0, b"", x, b",", y);
-    at_right(&line[..n], width);
+    let mut text = Text::<24>::new();
+    text.put_two(b"", x, b",", y);
+    at_right(text.as_bytes(), width);
 }
 
 fn show_number(number: i32, width: usize) {
-    let mut line = [0u8; 24];
-    let n = report_text::put_field(&mut line, 0, b"", number);
-    at_right(&line[..n], width);
+    let mut text = Text::<24>::new();
+    text.put_field(b"", number);
+    at_right(text.as_bytes(), width);
 }
 
 // No planned offset is below zero.
 fn number_of(at: i32) -> u32 {
-    if at < 0 {
-        return 0;
-    }
-    at as u32
+    at.max(0) as u32
 }
 
 // The column and the row of the luma plane that an offset stands for.
@@ -212,7 +211,7 @@ fn row(at: u32) -> i32 {
 
 // Where an offset lies in the luma plane, or that there is none.
 fn show_offset(offset: Offset) {
-    let Offset::At(at) = offset else {
+    let Some(at) = offset else {
         at_right(b"none", 8);
         return;
     };
@@ -221,26 +220,20 @@ fn show_offset(offset: Offset) {
 }
 
 fn lies_at(offset: Offset, pos: Pair) -> bool {
-    let x = pos.first;
-    let y = pos.second;
-    let Offset::At(at) = offset else {
+    let Some(at) = offset else {
         return false;
     };
     let n = number_of(at);
-    (column(n) == x) & (row(n) == y)
+    (column(n) == pos.first) & (row(n) == pos.second)
 }
 
 // A halved block's samples all come from its overlay, where there is one.
 fn read_from(given: Record) -> Offset {
-    let full = given.full;
-    let overlay = given.overlay;
-    if !window::is_negative(given) {
-        return full;
+    if window::is_negative(given) {
+        given.overlay.or(given.full)
+    } else {
+        given.full
     }
-    let Offset::At(at) = overlay else {
-        return full;
-    };
-    Offset::At(at)
 }
 
 // What became of a block, in the report's words, and `fine` for one that isn't bad.
@@ -258,12 +251,10 @@ fn show_outcome(given: Record) {
 
 // Of a bad block, whether its samples are those of its position.
 fn show_reads(given: Record) {
-    let pos = given.pos;
-    let average = given.average;
-    if !lies_at(average, pos) {
+    if !lies_at(given.average, given.pos) {
         io::write_all(1, b", moved");
     }
-    if !lies_at(read_from(given), pos) {
+    if !lies_at(read_from(given), given.pos) {
         io::write_all(1, b", stale");
     }
 }
@@ -285,9 +276,8 @@ fn show_block(records: &[i32; 288], order: &[i32; 48], bests: &[i32; 120], k: us
     requires { k < 24 }
 {
     let given = record_slice::record_at(records, k);
-    let predictor = given.predictor;
     show_pair(order[2 * k], order[2 * k + 1], 5);
-    show_pair(predictor.first, predictor.second, 10);
+    show_pair(given.predictor.first, given.predictor.second, 10);
     show_pair(
         bests[limits::NUMBERS_PER_BEST * k],
         bests[limits::NUMBERS_PER_BEST * k + 1],
@@ -295,12 +285,9 @@ fn show_block(records: &[i32; 288], order: &[i32; 48], bests: &[i32; 120], k: us
     );
     show_number(bests[limits::NUMBERS_PER_BEST * k + 2], 7);
     show_number(bests[limits::NUMBERS_PER_BEST * k + 4], 7);
-    let full = given.full;
-    let overlay = given.overlay;
-    let average = given.average;
-    show_offset(full);
-    show_offset(overlay);
-    show_offset(average);
+    show_offset(given.full);
+    show_offset(given.overlay);
+    show_offset(given.average);
     show_story(given);
 }
 
@@ -331,21 +318,18 @@ fn show_grid(vectors: &[i32; 72]) {
 
 // The bar is brighter than 127, and black is 0.
 fn show_sample(sample: u8) {
-    if sample == 0 {
-        io::write_all(1, b"_");
-        return;
-    }
-    if sample < 128 {
-        io::write_all(1, b".");
-        return;
-    }
-    io::write_all(1, b"#");
+    let shown = match sample {
+        0 => b"_",
+        1..=127 => b".",
+        _ => b"#",
+    };
+    io::write_all(1, shown);
 }
 
 // One row of a plane.
 fn show_row(luma: &[u8; 1536]) {
-    for x in 0..48 {
-        show_sample(luma[768 + x]);
+    for sample in &luma[768..816] {
+        show_sample(*sample);
     }
     io::write_all(1, b"\n");
 }
@@ -419,8 +403,8 @@ fn write_trailer() {
 }
 
 fn write_plan(records: &[i32; 288]) {
-    for i in 0..288 {
-        write_word(records[i]);
+    for word in records {
+        write_word(*word);
     }
     write_trailer();
 }
@@ -452,23 +436,24 @@ fn show_pass(
 }
 
 // ---- the three steps
-fn evaluated(records: &[i32; 288], bests: &mut [i32; 120]) -> u32 {
+// U and V are alike.
+fn samples<'a>(luma: &'a [u8; 1536], chroma: &'a [u8; 384]) -> Samples<'a> {
+    Samples {
+        luma,
+        u: chroma,
+        v: chroma,
+    }
+}
+
+fn evaluated(records: &[i32; 288], bests: &mut [i32; 120]) -> Result<(), Refusal> {
     let luma = luma_plane(20);
     let chroma = chroma_plane(20);
-    let reference = luma_plane(22);
+    let reference_luma = luma_plane(22);
     let reference_chroma = chroma_plane(22);
-    show_frames(&luma, &reference);
-    evaluation::evaluate(
-        request(),
-        records,
-        &luma,
-        &chroma,
-        &chroma,
-        &reference,
-        &reference_chroma,
-        &reference_chroma,
-        bests,
-    )
+    show_frames(&luma, &reference_luma);
+    let source = samples(&luma, &chroma);
+    let reference = samples(&reference_luma, &reference_chroma);
+    evaluation::evaluate(request(), records, source, reference, bests)
 }
 
 fn finished(
@@ -476,72 +461,56 @@ fn finished(
     indices: &[i32; 24],
     bests: &[i32; 120],
     vectors: &mut [i32; 72],
-) -> u32 {
+) -> Result<(), Refusal> {
     let mut output = [0i32; 48];
     finishing::finish(6, 4, indices, bests, diagonal, true, vectors, &mut output)
 }
 
 // Of a plan that was made.
-fn show_rest(diagonal: i32, order: &[i32; 48], records: &[i32; 288], indices: &[i32; 24]) {
+fn show_rest(
+    diagonal: i32,
+    order: &[i32; 48],
+    records: &[i32; 288],
+    indices: &[i32; 24],
+) -> Result<(), Refusal> {
     let before = predictors();
-    let mut vectors = predictors();
+    let mut vectors = before;
     let mut bests = [0i32; 120];
-    let number = evaluated(records, &mut bests);
-    if number != 0 {
-        refused(number);
-        return;
-    }
-    let last = finished(diagonal, indices, &bests, &mut vectors);
-    if last != 0 {
-        refused(last);
-        return;
-    }
+    evaluated(records, &mut bests)?;
+    finished(diagonal, indices, &bests, &mut vectors)?;
     show_pass(records, order, &bests, &before, &vectors);
+    Ok(())
 }
 
-fn planned(order: &[i32; 48], records: &mut [i32; 288], indices: &mut [i32; 24]) -> Planned {
+fn planned(
+    order: &[i32; 48],
+    records: &mut [i32; 288],
+    indices: &mut [i32; 24],
+) -> Result<Made, Refusal> {
     let luma = luma_plane(20);
     let chroma = chroma_plane(20);
     let vectors = predictors();
-    planning::plan(
-        settings(),
-        order,
-        &vectors,
-        &luma,
-        &chroma,
-        &chroma,
-        records,
-        indices,
-    )
+    let source = samples(&luma, &chroma);
+    planning::plan(settings(), order, &vectors, source, records, indices)
 }
 
-fn show(plan_alone: bool) {
+fn show(plan_alone: bool) -> Result<(), Refusal> {
     let mut order = [0i32; 48];
     let mut records = [0i32; 288];
     let mut indices = [0i32; 24];
-    let number = serpentine::serpentine_order(6, 4, &mut order);
-    if number != 0 {
-        refused(number);
-        return;
-    }
-    let answer = planned(&order, &mut records, &mut indices);
-    if let Planned::Refused(other) = answer {
-        refused(other);
-        return;
-    }
-    let Planned::Done(made) = answer else {
-        return;
-    };
+    serpentine::serpentine_order(6, 4, &mut order)?;
+    let made = planned(&order, &mut records, &mut indices)?;
     if plan_alone {
         write_plan(&records);
-        return;
+        return Ok(());
     }
-    let diagonal = made.diagonal;
-    show_rest(diagonal, &order, &records, &indices);
+    show_rest(made.diagonal, &order, &records, &indices)
 }
 
 fn main() {
     let mut asked = [0u8; 1];
     let n = io::read_full(0, &mut asked);
-    show(0 < n);
+    if let Err(refusal) = show(0 < n) {
+        refused(refusal);
+    }
 }

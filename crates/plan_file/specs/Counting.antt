@@ -17,7 +17,7 @@ module _ (test : Record → Bool) (words : List ℤ) where
   unfolding tally
   none_counted = refl
 
-  one_more_counted : (n : ℕ) → tally test words (n + 1) ≡ tally test words n + cond (test (record_at words n)) 1 0
+  pub one_more_counted : (n : ℕ) → tally test words (n + 1) ≡ tally test words n + cond (test (record_at words n)) 1 0
   unfolding tally
   one_more_counted n = rw add-one
 

@@ -1,12 +1,11 @@
 -- 01, "Plan file": its listing is accepted, from the bytes of its words, by computation. Its header has 02's two counts, Three: "The listing in 01 becomes
 -- `searched=0 kept=0`."
-use Rattle.std.specs.Prelude.{◌≡◌, refl, List, [], ◌∷◌, ◌++◌, ℕ, ℤ, pos, negsuc}
+use Rattle.std.specs.Prelude.{◌≡◌, refl, List, [], ◌∷◌, ◌++◌, ℕ, ℤ, pos, negsuc, Ok}
 use Rattle.limits.specs.Refusals.{any_upto}
 use Rattle.little_endian.specs.Bytes.{bytes_of, word_at, words_upto}
 use Rattle.records.specs.Packing.{absent_word}
 use Rattle.records.specs.Unpacking.{record_of}
 use Rattle.plan_file.specs.declared.Head.{Head}
-use Rattle.plan_file.specs.declared.Plan.TheVariants as plan
 use Rattle.window.specs.Windows.{is_searched, is_kept, is_wide}
 use Rattle.record_slice.specs.RecordSlice.{words_from, record_at}
 use Rattle.plan_file.specs.PlanFile.{trailer_of, trailer_holds, is_plan_file, tally, head_of, plan_of}
@@ -25,7 +24,7 @@ listed =
 abbrev pub listed_head : Head
 listed_head = record { count = pos 1; searched = pos 0; kept = pos 0; width = pos 8; height = pos 8; pel = pos 2; slots = pos 10 }
 
-pub listing_accepted : plan_of listed ≡ plan.Accepted listed_head
+pub listing_accepted : plan_of listed ≡ Ok listed_head
 unfolding plan_of is_plan_file trailer_holds trailer_of head_of any_upto is_wide is_searched is_kept tally record_at words_from record_of words_upto
     word_at bytes_of
 listing_accepted = refl

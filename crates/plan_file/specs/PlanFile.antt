@@ -1,8 +1,11 @@
 -- 01, "Plan file": "Form 1: records of 12 little-endian words from byte 0, then a trailer of eight words that points back: bytes back to the first record
 -- (48 x count), count, width, height, pel, radius, SATD 0 or 1, form 1. Bytes back + 32 is the file's length. Size, pel and radius are inside the limits
 -- above." The limits: "Block 8x8, 16x8 or 16x16", "Pel 1, 2 or 4", a radius of at most 3. Definitions alone.
-use Rattle.std.specs.Prelude.{Bool, cond, ◌&&◌, List, ℕ, zero, suc, ◌+◌, ◌-◌, ◌/◌, leb, ℤ, pos, nat_abs, ◌+ℤ◌, ◌*ℤ◌, length}
+use Rattle.std.specs.Prelude.{Bool, not, cond, ◌&&◌, List, ℕ, zero, suc, ◌+◌, ◌-◌, ◌/◌, leb, ℤ, pos, nat_abs, ◌+ℤ◌, ◌*ℤ◌, length, Result}
 use Rattle.whole.specs.Numbers.{lies_in}
+use Rattle.refusals.specs.declared.Refusal.{Refusal}
+use Rattle.refusals.specs.Numbers.{answered}
+use Rattle.limits.specs.Refusals.{first}
 use Rattle.limits.specs.Limits.{same, is_block, is_pel}
 use Rattle.limits.specs.Sizes.{bytes_per_record}
 use Rattle.little_endian.specs.Bytes.{word_at, words_upto}
@@ -12,8 +15,6 @@ use Rattle.record_slice.specs.RecordSlice.{record_at, any_wide}
 use Rattle.plan_file.specs.declared.Trailer.{Trailer}
 use Rattle.plan_file.specs.declared.Head.{Head}
 use Rattle.plan_file.specs.declared.Counts.{Counts}
-use Rattle.plan_file.specs.declared.Plan.{Plan}
-use Rattle.plan_file.specs.declared.Plan.TheVariants as plan
 
 -- ---- the records: "12 little-endian words from byte 0" each, so that they are read as from a slice of the file's words
 abbrev pub words_of : List ℕ → List ℤ
@@ -81,11 +82,8 @@ head_of file =
     }
 
 -- "a file is asked for 8 first"
-unfoldable pub plan_of : List ℕ → Plan
-plan_of file =
-    cond (is_plan_file file) (cond (wide_file file) (plan.Refused 7) (plan.Accepted (head_of file))) (plan.Refused 8)
+abbrev pub file_number : List ℕ → ℕ
+file_number file = first (not (is_plan_file file)) 8 (first (wide_file file) 7 0)
 
--- 01's numbers for the answers: 0 done
-abbrev pub plan_number : Plan → ℕ
-plan_number (plan.Accepted head) = 0
-plan_number (plan.Refused number) = number
+unfoldable pub plan_of : List ℕ → Result Head Refusal
+plan_of file = answered (file_number file) (head_of file)

@@ -1,17 +1,21 @@
 -- What a file that 8 does not refuse has: its length and its count fit each other, and its radius is one of 0 to 3. Assumes nothing.
-use Rattle.std.specs.Prelude.{◌≡◌, refl, Bool, true, false, ◌&&◌, cond, List, ℕ, ◌+◌, ◌*◌, ◌/◌, ◌≤◌, T, leb, ℤ, pos, nat_abs, ◌+ℤ◌, ◌*ℤ◌, length, take}
-use Rattle.std.proofs.Common.{ap, ◌∙◌, arith, leb-true}
+use Rattle.std.specs.Prelude.{◌≡◌, refl, Bool, true, false, ◌&&◌, List, ℕ, ◌+◌, ◌*◌, ◌/◌, ◌≤◌, T, leb, ℤ, pos, nat_abs, ◌+ℤ◌, ◌*ℤ◌, length, take, Ok, Err, not}
+use Rattle.std.proofs.Common.{sym, ap, ◌∙◌, arith, leb-true}
 use Rattle.std.specs.Int.Signed.{non_neg}
 use Rattle.whole.specs.Numbers.{lies_in}
 use Rattle.whole.specs.Signed.{signed, add_is, times_is, abs_is, nonneg_of}
 use Rattle.whole.specs.Truth.{left_of, right_of, six_of, lies_low, lies_high}
+use Rattle.refusals.specs.declared.Refusal.TheVariants.{Window, NoPlanFile}
+use Rattle.refusals.specs.Numbers.{answer_number}
+use Rattle.refusals.specs.Laws.{number_back, done_means}
+use Rattle.limits.specs.Refusals.{first}
+use Rattle.limits.specs.Refused.{first_most}
 use Rattle.limits.specs.Limits.{same, is_block, is_pel}
 use Rattle.limits.specs.Sizes.{words_per_record, bytes_per_record}
 use Rattle.little_endian.specs.WordsRead.{words_long as all_long}
 use Rattle.plan_file.specs.declared.Trailer.{Trailer}
 use Rattle.plan_file.specs.declared.Head.{Head}
-use Rattle.plan_file.specs.declared.Plan.TheVariants as plan
-use Rattle.plan_file.specs.PlanFile.{words_of, lengths_hold, trailer_holds, trailer_of, is_plan_file, wide_file, head_of, plan_of}
+use Rattle.plan_file.specs.PlanFile.{words_of, lengths_hold, trailer_holds, trailer_of, is_plan_file, wide_file, head_of, file_number, plan_of}
 
 pub record Served (t : Trailer) (bytes : ℕ) : Type 0 where
   pub enough : 32 ≤ bytes
@@ -83,28 +87,34 @@ records_held file e = omega (arith, words_long file, (served file e).counted)
 
 -- ---- the three answers
 module _ (file : List ℕ) where
-  pub refused_8 : is_plan_file file ≡ false → plan_of file ≡ plan.Refused 8
+  pub refused_8 : is_plan_file file ≡ false → plan_of file ≡ Err NoPlanFile
   unfolding plan_of
   refused_8 e = rw e
 
-  pub refused_7 : is_plan_file file ≡ true → wide_file file ≡ true → plan_of file ≡ plan.Refused 7
+  pub refused_7 : is_plan_file file ≡ true → wide_file file ≡ true → plan_of file ≡ Err Window
   unfolding plan_of
   refused_7 e wide = rw (e, wide)
 
-  pub accepted : is_plan_file file ≡ true → wide_file file ≡ false → plan_of file ≡ plan.Accepted (head_of file)
+  pub accepted : is_plan_file file ≡ true → wide_file file ≡ false → plan_of file ≡ Ok (head_of file)
   unfolding plan_of
   accepted e wide = rw (e, wide)
 
+  -- an answer's number is the table's
+  pub number_of_plan : answer_number (plan_of file) ≡ file_number file
+  unfolding plan_of
+  number_of_plan =
+      number_back (head_of file) (file_number file)
+      (first_most (not (is_plan_file file)) (omega arith) (first_most (wide_file file) (omega arith) (omega arith)))
+
 -- ---- an accepted file: its head is the one that is read of it
-apart : {h : Head} {n : ℕ} → plan.Refused n ≡ plan.Accepted h → ⊥
-apart e = let z : ◌≡◌ {A = ℕ} 0 1 = cc in omega arith
+by_tests : (p w : Bool) → first (not p) 8 (first w 7 0) ≡ 0 → (p ≡ true) × (w ≡ false)
+by_tests true true e = absurd (omega arith)
+by_tests true false e = (refl, refl)
+by_tests false w e = absurd (omega arith)
 
-by_tests : (p w : Bool) (x h : Head) → cond p (cond w (plan.Refused 7) (plan.Accepted x)) (plan.Refused 8) ≡ plan.Accepted h →
-    (p ≡ true) × (w ≡ false) × (x ≡ h)
-by_tests true true x h e = absurd (apart e)
-by_tests true false x h e = (refl, refl, cc)
-by_tests false w x h e = absurd (apart e)
-
-pub accepted_says : (file : List ℕ) (h : Head) → plan_of file ≡ plan.Accepted h → (is_plan_file file ≡ true) × (wide_file file ≡ false) × (head_of file ≡ h)
+pub accepted_says : (file : List ℕ) (h : Head) → plan_of file ≡ Ok h → (is_plan_file file ≡ true) × (wide_file file ≡ false) × (head_of file ≡ h)
 unfolding plan_of
-accepted_says file h e = by_tests (is_plan_file file) (wide_file file) (head_of file) h e
+accepted_says file h e =
+    let done = done_means {done = head_of file} (file_number file) e in
+    let tests = by_tests (is_plan_file file) (wide_file file) done.0 in
+    (tests.0, tests.1, sym done.1)

@@ -1,13 +1,11 @@
 -- Where the records of an accepted plan point: every offset that is there lies in its plane's data, so that no cast cuts it, and a bad record's position is a
 -- place at which the block still lies inside the frame. Assumes nothing.
-use Rattle.std.specs.Prelude.{◌≡◌, refl, Bool, true, cond, List, pos}
+use Rattle.std.specs.Prelude.{◌≡◌, refl, Bool, true, cond, List, pos, None, Option, Some}
 use Rattle.std.proofs.Common.{ap, subst, arith}
 use Rattle.std.proofs.Math.Bool.{false}
 use Prim.Native.Nat.{ℕ, zero, suc, ◌<◌}
 use Rattle.std.proofs.Math.IntN.{ℤ}
 use Rattle.whole.specs.Interval.{Within}
-use Rattle.records.specs.declared.Offset.{Offset}
-use Rattle.records.specs.declared.Offset.TheVariants.{At, Absent}
 use Rattle.records.specs.declared.Record.{Record}
 use Rattle.slots.specs.declared.Source.{Source}
 use Rattle.slots.specs.declared.Slots.{Slots}
@@ -26,24 +24,24 @@ use Rattle.passes.specs.Asked.{Served}
 
 -- ---- offsets
 -- an offset that is there lies from 0 to 1,073,741,822
-pub record InData (offset : Offset) : Type 0 where
-  pub place_lies : {place : ℤ} → offset ≡ At place → Within 0 1073741822 place
+pub record InData (offset : Option ℤ) : Type 0 where
+  pub place_lies : {place : ℤ} → offset ≡ Some place → Within 0 1073741822 place
 
-abbrev place_in : Offset → ℤ
-place_in (At place) = place
-place_in Absent = pos 0
+abbrev place_in : Option ℤ → ℤ
+place_in (Some place) = place
+place_in None = pos 0
 
-none_in : InData Absent
+none_in : InData None
 none_in = record { place_lies = λ e. absurd (clash e) }
   where
-    there : Offset → Type 0
-    there (At place) = ⊥
-    there Absent = Unit
+    there : Option ℤ → Type 0
+    there (Some place) = ⊥
+    there None = Unit
 
-    clash : {place : ℤ} → ◌≡◌ {A = Offset} Absent (At place) → ⊥
+    clash : {place : ℤ} → ◌≡◌ {A = Option ℤ} None (Some place) → ⊥
     clash e = subst there e tt
 
-at_in : {place : ℤ} → Within 0 1073741822 place → InData (At place)
+at_in : {place : ℤ} → Within 0 1073741822 place → InData (Some place)
 at_in w = record { place_lies = λ e. subst (Within 0 1073741822) (ap place_in e) w }
 
 -- all four of a source

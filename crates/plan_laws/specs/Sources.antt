@@ -1,10 +1,8 @@
 -- What the two slots always hold, and so the offsets of every bad record: u and v together, and then full too; and full or overlay is there.
 -- Nothing is asked of the settings, the order or the vectors. Assumes nothing.
-use Rattle.std.specs.Prelude.{◌≡◌, refl, Bool, true, false, ◌&&◌, ◌||◌, not, cond, List, ℕ, zero, suc, ℤ}
+use Rattle.std.specs.Prelude.{◌≡◌, refl, Bool, true, false, ◌&&◌, ◌||◌, not, cond, List, ℕ, zero, suc, ℤ, None, Option, Some}
 use Rattle.whole.specs.Signed.{holds}
 use Rattle.whole.specs.Truth.{left_of, both_of}
-use Rattle.records.specs.declared.Offset.{Offset}
-use Rattle.records.specs.declared.Offset.TheVariants.{At, Absent}
 use Rattle.records.specs.declared.Record.{Record}
 use Rattle.slots.specs.declared.Source.{Source}
 use Rattle.slots.specs.declared.Slots.{Slots}
@@ -21,9 +19,9 @@ use Rattle.block.specs.Shapes.{shape_of, lambda_of, is_bad, moves_of, spot_of}
 use Rattle.block.specs.Steps.{filled_with, settled_at, bad_record, bad_step, luma_step, quiet_step, step_with, step_of}
 use Rattle.passes.specs.Fold.{turn_at, slots_at}
 
-abbrev pub is_there : Offset → Bool
-is_there (At place) = true
-is_there Absent = false
+abbrev pub is_there : Option ℤ → Bool
+is_there (Some place) = true
+is_there None = false
 
 abbrev alike : Bool → Bool → Bool
 alike true b = b

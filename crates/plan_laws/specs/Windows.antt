@@ -1,6 +1,6 @@
 -- The window of every record that planning makes lies inside predictor ± radius, so that it is never too wide for evaluating with the same radius.
 -- Nothing is asked of the settings, the block or the slots. Assumes nothing.
-use Rattle.std.specs.Prelude.{◌≡◌, Bool, ◌&&◌, cond, ℤ, pos, ◌+ℤ◌, ◌-ℤ◌, ◌*ℤ◌, ◌≤ℤ◌}
+use Rattle.std.specs.Prelude.{◌≡◌, Bool, ◌&&◌, cond, ℤ, pos, ◌+ℤ◌, ◌-ℤ◌, ◌*ℤ◌, ◌≤ℤ◌, Option}
 use Rattle.std.proofs.Math.Path.{refl}
 use Rattle.std.proofs.Common.{sym, ap, ◌∙◌}
 use Rattle.std.proofs.Math.Bool.{true, false}
@@ -9,7 +9,6 @@ use Rattle.limits.specs.Limits.{radius_of}
 use Rattle.whole.specs.Numbers.{lesser_of, greater_of}
 use Rattle.whole.specs.Signed.{signed, add_is, diff_is, times_is}
 use Rattle.whole.specs.Truth.{and_false}
-use Rattle.records.specs.declared.Offset.{Offset}
 use Rattle.window.specs.Windows.{is_bad, side_of, most_of, window_wide, is_wide}
 use Rattle.slots.specs.declared.Slots.{Slots}
 use Rattle.axis.specs.declared.Axis.{Axis}
@@ -64,12 +63,12 @@ right_false true e = e
 right_false false e = refl
 
 -- ---- each of the three kinds of record
-quiet_not_bad : (b : Block) (negative : Bool) (lambda : ℤ) (average : Offset) → is_bad (quiet_record b negative lambda average) ≡ false
+quiet_not_bad : (b : Block) (negative : Bool) (lambda : ℤ) (average : Option ℤ) → is_bad (quiet_record b negative lambda average) ≡ false
 unfolding quiet_record
 quiet_not_bad b true lambda average = refl
 quiet_not_bad b false lambda average = refl
 
-quiet_narrow : (radius : ℤ) (b : Block) (negative : Bool) (lambda : ℤ) (average : Offset) → is_wide radius (quiet_record b negative lambda average) ≡ false
+quiet_narrow : (radius : ℤ) (b : Block) (negative : Bool) (lambda : ℤ) (average : Option ℤ) → is_wide radius (quiet_record b negative lambda average) ≡ false
 unfolding is_wide
 quiet_narrow radius b negative lambda average = rw (quiet_not_bad b negative lambda average)
 

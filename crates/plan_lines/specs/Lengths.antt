@@ -1,6 +1,6 @@
 -- How long the report's lines can be, with their newlines: the first has at most 66 bytes, a record's at most 131. So a lent line of that length is never
 -- refused with 5. Assumes nothing.
-use Rattle.std.specs.Prelude.{◌≡◌, refl, Bool, true, List, ◌++◌, ℕ, suc, ◌+◌, ◌*◌, ◌/◌, ◌^◌, ◌≤◌, ◌<◌, T, ℤ, pos, negsuc, nat_abs, length, get_or}
+use Rattle.std.specs.Prelude.{◌≡◌, refl, Bool, true, List, ◌++◌, ℕ, suc, ◌+◌, ◌*◌, ◌/◌, ◌^◌, ◌≤◌, ◌<◌, T, ℤ, pos, negsuc, nat_abs, length, get_or, Ok}
 use Rattle.std.proofs.Math.Bool.{false}
 use Rattle.std.proofs.Common.{⊎_elim, div-add-mod', arith, lit<, length-append, SFits}
 use borrow.Author.Tests.{lt-ltb, le-ltb}
@@ -19,7 +19,6 @@ use Rattle.records.specs.Packing.{absent_word}
 use Rattle.records.specs.Unpacking.{offset_of, pair_of, record_of}
 use Rattle.report_text.specs.Text.{codes, decimal}
 use Rattle.report_text.specs.Digits.{digits_length, decimal_length}
-use Rattle.report_text.specs.declared.Written.TheVariants as written
 use Rattle.window.specs.Windows.{bad_flag, half_flag, is_searched, is_kept, slots_of}
 use Rattle.record_slice.specs.RecordSlice.{words_from, record_at}
 use Rattle.plan_file.specs.PlanFile.{words_of, trailer_of, is_plan_file, wide_file, tally, head_of}
@@ -144,14 +143,14 @@ head_most file holds =
 
 -- ---- so a line of that length always gets its text
 module _ (file : List ℕ) (holds : is_plan_file file ≡ true) (narrow : wide_file file ≡ false) (room : ℕ) where
-  pub head_fits : 66 ≤ room → head_answer file room ≡ written.Length (length (head_text (head_of file)))
+  pub head_fits : 66 ≤ room → head_answer file room ≡ Ok (length (head_text (head_of file)))
   unfolding head_answer
   head_fits enough =
       let fits : ltb room (length (head_text (head_of file))) ≡ false = le-ltb room (length (head_text (head_of file))) (omega (arith, head_most file holds)) in
       rw (holds, fits, narrow)
 
   pub line_fits : (number : ℕ) → number < nat_abs (trailer_of file).count → 131 ≤ room →
-      line_answer file number room ≡ written.Length (length (line_of file number))
+      line_answer file number room ≡ Ok (length (line_of file number))
   unfolding line_answer
   line_fits number there enough =
       let k = served file holds in

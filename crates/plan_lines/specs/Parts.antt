@@ -1,10 +1,8 @@
--- The two lines in the parts in which the code puts them, and that these are the lines. Assumes nothing.
+-- The two lines in parts, and that these are the lines, as they are put: one part behind the other. Assumes nothing.
 use Rattle.std.specs.Prelude.{◌≡◌, List, ◌++◌, ℕ, ℤ}
-use Rattle.std.proofs.Common.{sym, subst, append_assoc}
+use Rattle.std.proofs.Common.{ap, ◌∙◌, append_assoc}
 use Rattle.records.specs.declared.Record.{Record}
 use Rattle.report_text.specs.Text.{codes, decimal}
-use Rattle.report_text.specs.Putting.{Puts}
-use Rattle.report_text.specs.PuttingLaws.{both_put}
 use Rattle.plan_file.specs.declared.Head.{Head}
 use Rattle.window.specs.Windows.{bad_flag, half_flag}
 use Rattle.plan_lines.specs.Report.{field, pair_text, offset_text, head_text, line_text}
@@ -30,21 +28,47 @@ line_parts number r =
     (codes " predictor=" ++ pair_text r.predictor) (field " sad=" r.sad) (codes " average=" ++ offset_text r.average)
     (codes " window=" ++ pair_text r.window_x) (codes "," ++ pair_text r.window_y) (codes "\n")
 
-regroup_head : (a b c d e f g h : List ℕ) → a ++ b ++ c ++ d ++ e ++ f ++ g ++ h ≡ a ++ (b ++ c) ++ (d ++ e) ++ (f ++ g) ++ h
-regroup_head a b c d e f g h = simp append_assoc
+-- ---- one part put behind the other
+five_put : (a b c d e : List ℕ) {t u v w x : List ℕ} → t ≡ a → u ≡ t ++ b → v ≡ u ++ c → w ≡ v ++ d → x ≡ w ++ e → x ≡ a ++ b ++ c ++ d ++ e
+five_put a b c d e p q r s l =
+    l ∙ ap (λ (y : List ℕ). y ++ e) (s ∙ ap (λ (y : List ℕ). y ++ d) (r ∙ ap (λ (y : List ℕ). y ++ c) (q ∙ ap (λ (y : List ℕ). y ++ b) p)))
 
--- the first line, put part by part, of numbers that are the head's
-pub head_put : (head : Head) {l₀ l₁ l₂ l₃ l₄ l₅ : List ℕ} {a b c d e : ℕ} {count searched kept width height pel slots : ℤ} →
-    Puts l₀ 0 (field "plan blocks=" count) l₁ a →
-    Puts l₁ a (field " searched=" searched ++ field " kept=" kept) l₂ b →
-    Puts l₂ b (field " size=" width ++ field "x" height) l₃ c →
-    Puts l₃ c (field " pel=" pel ++ field " slots=" slots) l₄ d →
-    Puts l₄ d (codes "\n") l₅ e →
-    count ≡ head.count → searched ≡ head.searched → kept ≡ head.kept → width ≡ head.width → height ≡ head.height → pel ≡ head.pel →
-    slots ≡ head.slots → Puts l₀ 0 (head_text head) l₅ e
+grouped_head : (a b c d e f g h : List ℕ) → a ++ (b ++ c) ++ (d ++ e) ++ (f ++ g) ++ h ≡ a ++ b ++ c ++ d ++ e ++ f ++ g ++ h
+grouped_head a b c d e f g h = simp append_assoc
+
+grouped_line : (a b c d e f g h i j : List ℕ) → a ++ b ++ (c ++ d) ++ e ++ f ++ g ++ h ++ i ++ j ≡ a ++ b ++ c ++ d ++ e ++ f ++ g ++ h ++ i ++ j
+grouped_line a b c d e f g h i j = simp append_assoc
+
+-- the first line
+pub head_put : (head : Head) {t u v w x : List ℕ} →
+    t ≡ field "plan blocks=" head.count →
+    u ≡ t ++ (field " searched=" head.searched ++ field " kept=" head.kept) →
+    v ≡ u ++ (field " size=" head.width ++ field "x" head.height) →
+    w ≡ v ++ (field " pel=" head.pel ++ field " slots=" head.slots) →
+    x ≡ w ++ codes "\n" → x ≡ head_text head
 unfolding head_text
-head_put head {l₀} {l₅ = l₅} {e = e} {count} {searched} {kept} {width} {height} {pel} {slots} blocks bad size rest end p₀ p₁ p₂ p₃ p₄ p₅ p₆ =
-    let joined = regroup_head (field "plan blocks=" count) (field " searched=" searched) (field " kept=" kept) (field " size=" width) (field "x" height)
-    (field " pel=" pel) (field " slots=" slots) (codes "\n") in
-    rw (sym p₀, sym p₁, sym p₂, sym p₃, sym p₄, sym p₅, sym p₆)
-    (subst (λ (text : List ℕ). Puts l₀ 0 text l₅ e) (sym joined) (both_put (both_put (both_put (both_put blocks bad) size) rest) end))
+head_put head blocks bad size rest end =
+    five_put (field "plan blocks=" head.count) (field " searched=" head.searched ++ field " kept=" head.kept)
+    (field " size=" head.width ++ field "x" head.height) (field " pel=" head.pel ++ field " slots=" head.slots) (codes "\n") blocks bad size rest end
+    ∙ grouped_head (field "plan blocks=" head.count) (field " searched=" head.searched) (field " kept=" head.kept) (field " size=" head.width)
+    (field "x" head.height) (field " pel=" head.pel) (field " slots=" head.slots) (codes "\n")
+
+-- a record's line
+pub line_put : (number : ℤ) (r : Record) {t u v w x y z l : List ℕ} →
+    t ≡ decimal number ++ field " bad=" (bad_flag r.flags) →
+    u ≡ t ++ (field " half=" (half_flag r.flags) ++ field " lambda=" r.lambda) →
+    v ≡ u ++ (codes " predictor=" ++ pair_text r.predictor) →
+    w ≡ v ++ field " sad=" r.sad →
+    x ≡ w ++ (codes " average=" ++ offset_text r.average) →
+    y ≡ x ++ (codes " window=" ++ pair_text r.window_x) →
+    z ≡ y ++ (codes "," ++ pair_text r.window_y) →
+    l ≡ z ++ codes "\n" → l ≡ line_text number r
+unfolding line_text
+line_put number r bad strength predictor sad mean wide high end =
+    let front = five_put (decimal number ++ field " bad=" (bad_flag r.flags)) (field " half=" (half_flag r.flags) ++ field " lambda=" r.lambda)
+    (codes " predictor=" ++ pair_text r.predictor) (field " sad=" r.sad) (codes " average=" ++ offset_text r.average) bad strength predictor sad mean in
+    end ∙ ap (λ (k : List ℕ). k ++ codes "\n") (high ∙ ap (λ (k : List ℕ). k ++ (codes "," ++ pair_text r.window_y))
+    (wide ∙ ap (λ (k : List ℕ). k ++ (codes " window=" ++ pair_text r.window_x)) front))
+    ∙ grouped_line (decimal number) (field " bad=" (bad_flag r.flags)) (field " half=" (half_flag r.flags)) (field " lambda=" r.lambda)
+    (codes " predictor=" ++ pair_text r.predictor) (field " sad=" r.sad) (codes " average=" ++ offset_text r.average)
+    (codes " window=" ++ pair_text r.window_x) (codes "," ++ pair_text r.window_y) (codes "\n")

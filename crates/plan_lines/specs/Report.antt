@@ -6,16 +6,14 @@
 -- "First line: count, records with BAD set, block size, pel, slots": for the second there are two counts, and "the header gains `kept=` after" `searched`.
 -- "Then each record's number, its two flags, lambda, predictor, SAD, average offset or `none`, and x least, x greatest, y least, y greatest." Definitions
 -- alone.
-use Rattle.std.specs.Prelude.{Bool, not, List, ◌++◌, ℕ, zero, suc, ltb, ℤ, pos, nat_abs, length, drop}
+use Rattle.std.specs.Prelude.{Bool, not, List, ◌++◌, ℕ, ltb, ℤ, pos, nat_abs, length, drop, None, Option, Some, Result}
 use Prim.Native.String.{String}
+use Rattle.refusals.specs.declared.Refusal.{Refusal}
+use Rattle.refusals.specs.Numbers.{answered}
 use Rattle.limits.specs.Refusals.{first, kept}
-use Rattle.records.specs.declared.Offset.{Offset}
-use Rattle.records.specs.declared.Offset.TheVariants.{At, Absent}
 use Rattle.records.specs.declared.Pair.{Pair}
 use Rattle.records.specs.declared.Record.{Record}
 use Rattle.report_text.specs.Text.{codes, decimal}
-use Rattle.report_text.specs.declared.Written.{Written}
-use Rattle.report_text.specs.declared.Written.TheVariants as written
 use Rattle.plan_file.specs.declared.Head.{Head}
 use Rattle.window.specs.Windows.{bad_flag, half_flag}
 use Rattle.record_slice.specs.RecordSlice.{record_at}
@@ -28,9 +26,9 @@ field label number = codes label ++ decimal number
 abbrev pub pair_text : Pair → List ℕ
 pair_text pair = decimal pair.first ++ field "," pair.second
 
-abbrev pub offset_text : Offset → List ℕ
-offset_text (At place) = decimal place
-offset_text Absent = codes "none"
+abbrev pub offset_text : Option ℤ → List ℕ
+offset_text (Some place) = decimal place
+offset_text None = codes "none"
 
 unfoldable pub head_text : Head → List ℕ
 head_text head =
@@ -61,10 +59,6 @@ line_text number r =
 abbrev pub text_number : Bool → List ℕ → ℕ → ℕ
 text_number wide text room = first (ltb room (length text)) 5 (first wide 7 0)
 
-abbrev pub answered : ℕ → List ℕ → Written
-answered zero text = written.Length (length text)
-answered (suc number) text = written.Refused (suc number)
-
 -- the lent line afterwards: "A refusal .. changes nothing lent", "a longer buffer keeps its tail"
 abbrev pub line_after : ℕ → List ℕ → List ℕ → List ℕ
 line_after number text line = kept number (text ++ drop (length text) line) line
@@ -73,8 +67,8 @@ line_after number text line = kept number (text ++ drop (length text) line) line
 abbrev pub head_number : List ℕ → ℕ → ℕ
 head_number file room = first (not (is_plan_file file)) 8 (text_number (wide_file file) (head_text (head_of file)) room)
 
-unfoldable pub head_answer : List ℕ → ℕ → Written
-head_answer file room = answered (head_number file room) (head_text (head_of file))
+unfoldable pub head_answer : List ℕ → ℕ → Result ℕ Refusal
+head_answer file room = answered (head_number file room) (length (head_text (head_of file)))
 
 unfoldable pub head_line : List ℕ → List ℕ → List ℕ
 head_line file line = line_after (head_number file (length line)) (head_text (head_of file)) line
@@ -89,13 +83,8 @@ line_number file number room =
     (first (not (ltb number (nat_abs (trailer_of file).count))) 4
     (text_number (wide_file file) (line_of file number) room))
 
-unfoldable pub line_answer : List ℕ → ℕ → ℕ → Written
-line_answer file number room = answered (line_number file number room) (line_of file number)
+unfoldable pub line_answer : List ℕ → ℕ → ℕ → Result ℕ Refusal
+line_answer file number room = answered (line_number file number room) (length (line_of file number))
 
 unfoldable pub line_line : List ℕ → ℕ → List ℕ → List ℕ
 line_line file number line = line_after (line_number file number (length line)) (line_of file number) line
-
--- 01's numbers for the answers: 0 done
-abbrev pub written_number : Written → ℕ
-written_number (written.Length bytes) = 0
-written_number (written.Refused number) = number

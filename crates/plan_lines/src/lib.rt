@@ -2,159 +2,101 @@
 #![tactic(auto)]
 
 ghost use Rattle.std.specs.Prelude.{◌≡◌, ◌++◌, ◌+◌, ◌≤◌, length};
-ghost use Rattle.report_text.specs.Putting.{Puts};
-ghost use Rattle.plan_lines.specs.Parts.{front_text, windows_text, back_text};
-ghost use Rattle.plan_lines.specs.Report.{pair_text, offset_text, head_text, line_text, text_number, answered, line_after, head_answer, line_answer, head_line, line_line};
+ghost use Rattle.refusals.specs.Numbers.{answered};
+ghost use Rattle.plan_lines.specs.Report.{pair_text, offset_text, head_text, line_text, text_number, line_after, head_answer, line_answer, head_line, line_line};
 
 use plan_file::Head;
 use records::{Offset, Pair, Record};
-use report_text::Written;
+use refusals::Refusal;
+use report_text::Text;
 
-fn put_pair(line: &mut [u8], at: usize, label: &[u8], pair: Pair) -> usize
-    requires { at + length label.now + 23 ≤ length line.old }
-    ensures puts { Puts line.old at (label.now ++ pair_text pair) line.new result }
-    ensures upper_bound { result ≤ at + length label.now + 23 }
+fn put_pair(text: &mut Text<192>, label: &[u8], pair: Pair)
+    requires { length text.old + length label.now + 23 ≤ 192 }
+    ensures puts { text.new ≡ text.old ++ (label.now ++ pair_text pair) }
+    ensures upper_bound { length text.new ≤ length text.old + length label.now + 23 }
 {
-    let first = pair.first;
-    let second = pair.second;
-    report_text::put_two(line, at, label, first, b",", second)
+    text.put_two(label, pair.first, b",", pair.second);
 }
 
-fn put_offset(line: &mut [u8], at: usize, label: &[u8], offset: Offset) -> usize
-    requires { at + length label.now + 11 ≤ length line.old }
-    ensures puts { Puts line.old at (label.now ++ offset_text offset) line.new result }
-    ensures upper_bound { result ≤ at + length label.now + 11 }
+fn put_offset(text: &mut Text<192>, label: &[u8], offset: Offset)
+    requires { length text.old + length label.now + 11 ≤ 192 }
+    ensures puts { text.new ≡ text.old ++ (label.now ++ offset_text offset) }
+    ensures upper_bound { length text.new ≤ length text.old + length label.now + 11 }
 {
-    let Offset::At(place) = offset else {
-        let next = report_text::put(line, at, label);
-        return report_text::put(line, next, b"none");
-    };
-    report_text::put_field(line, at, label, place)
+    match offset {
+        Some(place) => text.put_field(label, place),
+        None => {
+            text.put(label);
+            text.put(b"none");
+        }
+    }
 }
 
 // Every number takes at most 11 bytes, and so no line more than 192.
-fn head_text(head: Head, text: &mut [u8]) -> usize
-    requires { 192 ≤ length text.old }
-    ensures puts { Puts text.old 0 (head_text head) text.new result }
-    ensures upper_bound { result ≤ 192 }
+fn head_text(head: Head) -> Text<192>
+    ensures { result ≡ head_text head }
 {
-    let count = head.count;
-    let searched = head.searched;
-    let kept = head.kept;
-    let width = head.width;
-    let height = head.height;
-    let pel = head.pel;
-    let slots = head.slots;
-    let blocks = report_text::put_field(text, 0, b"plan blocks=", count);
-    let bad = report_text::put_two(text, blocks, b" searched=", searched, b" kept=", kept);
-    let size = report_text::put_two(text, bad, b" size=", width, b"x", height);
-    let rest = report_text::put_two(text, size, b" pel=", pel, b" slots=", slots);
-    report_text::put(text, rest, b"\n")
+    let mut text = Text::new();
+    text.put_field(b"plan blocks=", head.count);
+    text.put_two(b" searched=", head.searched, b" kept=", head.kept);
+    text.put_two(b" size=", head.width, b"x", head.height);
+    text.put_two(b" pel=", head.pel, b" slots=", head.slots);
+    text.put(b"\n");
+    text
 }
 
-// A record's line up to the predictor, at most 97 bytes.
-fn line_front(number: i32, given: Record, text: &mut [u8]) -> usize
-    requires { 192 ≤ length text.old }
-    ensures puts { Puts text.old 0 (front_text number given) text.new result }
-    ensures upper_bound { result ≤ 97 }
+fn line_text(number: i32, given: Record) -> Text<192>
+    ensures { result ≡ line_text number given }
 {
-    let flags = given.flags;
-    let lambda = given.lambda;
-    let predictor = given.predictor;
-    let bad = report_text::put_two(text, 0, b"", number, b" bad=", window::bad_flag(flags));
-    let half = window::half_flag(flags);
-    let strength = report_text::put_two(text, bad, b" half=", half, b" lambda=", lambda);
-    put_pair(text, strength, b" predictor=", predictor)
-}
-
-fn put_windows(line: &mut [u8], at: usize, given: Record) -> usize
-    requires { at + 56 ≤ length line.old }
-    ensures puts { Puts line.old at (windows_text given) line.new result }
-    ensures upper_bound { result ≤ at + 56 }
-{
-    let window_x = given.window_x;
-    let window_y = given.window_y;
-    let x = put_pair(line, at, b" window=", window_x);
-    let y = put_pair(line, x, b",", window_y);
-    report_text::put(line, y, b"\n")
-}
-
-fn line_back(given: Record, text: &mut [u8], at: usize) -> usize
-    requires { at + 92 ≤ length text.old }
-    ensures puts { Puts text.old at (back_text given) text.new result }
-    ensures upper_bound { result ≤ at + 92 }
-{
-    let sad = given.sad;
-    let average = given.average;
-    let cost = report_text::put_field(text, at, b" sad=", sad);
-    let mean = put_offset(text, cost, b" average=", average);
-    put_windows(text, mean, given)
-}
-
-fn line_text(number: i32, given: Record, text: &mut [u8]) -> usize
-    requires { 192 ≤ length text.old }
-    ensures puts { Puts text.old 0 (line_text number given) text.new result }
-    ensures upper_bound { result ≤ 192 }
-{
-    let at = line_front(number, given, text);
-    line_back(given, text, at)
+    let bad = window::bad_flag(given.flags);
+    let half = window::half_flag(given.flags);
+    let mut text = Text::new();
+    text.put_two(b"", number, b" bad=", bad);
+    text.put_two(b" half=", half, b" lambda=", given.lambda);
+    put_pair(&mut text, b" predictor=", given.predictor);
+    text.put_field(b" sad=", given.sad);
+    put_offset(&mut text, b" average=", given.average);
+    put_pair(&mut text, b" window=", given.window_x);
+    put_pair(&mut text, b",", given.window_y);
+    text.put(b"\n");
+    text
 }
 
 // 5 is below 7: a window is held against the file only where the line has room.
-fn lay_unless(line: &mut [u8], text: &[u8], wide: bool) -> Written
-    ensures answer { result ≡ answered (text_number wide text.now (length line.old)) text.now }
+fn lay_unless(line: &mut [u8], text: &[u8], wide: bool) -> Result<usize, Refusal>
+    ensures answer { result ≡ answered (text_number wide text.now (length line.old)) (length text.now) }
     ensures line { line.new ≡ line_after (text_number wide text.now (length line.old)) text.now line.old }
 {
-    if wide & (text.len() <= line.len()) {
-        return Written::Refused(7);
+    if wide && text.len() <= line.len() {
+        return Err(Refusal::Window);
     }
     report_text::lay(line, text)
 }
 
-fn lay_head(head: Head, line: &mut [u8], wide: bool) -> Written
-    ensures answer { result ≡ answered (text_number wide (head_text head) (length line.old)) (head_text head) }
-    ensures line { line.new ≡ line_after (text_number wide (head_text head) (length line.old)) (head_text head) line.old }
-{
-    let mut text = [0u8; 192];
-    let n = head_text(head, &mut text);
-    lay_unless(line, &text[..n], wide)
-}
-
-fn lay_line(number: i32, given: Record, line: &mut [u8], wide: bool) -> Written
-    ensures answer { result ≡ answered (text_number wide (line_text number given) (length line.old)) (line_text number given) }
-    ensures line { line.new ≡ line_after (text_number wide (line_text number given) (length line.old)) (line_text number given) line.old }
-{
-    let mut text = [0u8; 192];
-    let n = line_text(number, given, &mut text);
-    lay_unless(line, &text[..n], wide)
-}
-
-pub fn report_head(file: &[u8], line: &mut [u8]) -> Written
+// How many bytes of the line are the text's.
+#[tactic(auto, unfolding(crate::specs::Report::head_answer, crate::specs::Report::head_line))]
+pub fn report_head(file: &[u8], line: &mut [u8]) -> Result<usize, Refusal>
     ensures answer { result ≡ head_answer file.now (length line.old) }
     ensures line { line.new ≡ head_line file.now line.old }
 {
     if !plan_file::is_plan_file(file) {
-        return Written::Refused(8);
+        return Err(Refusal::NoPlanFile);
     }
-    let wide = plan_file::is_too_wide(file);
-    lay_head(plan_file::head_of(file), line, wide)
+    let text = head_text(plan_file::head_of(file));
+    lay_unless(line, text.as_bytes(), plan_file::is_too_wide(file))
 }
 
-pub fn report_line(file: &[u8], number: usize, line: &mut [u8]) -> Written
+#[tactic(auto, unfolding(crate::specs::Report::line_answer, crate::specs::Report::line_line))]
+pub fn report_line(file: &[u8], number: usize, line: &mut [u8]) -> Result<usize, Refusal>
     ensures answer { result ≡ line_answer file.now number (length line.old) }
     ensures line { line.new ≡ line_line file.now number line.old }
 {
     if !plan_file::is_plan_file(file) {
-        return Written::Refused(8);
+        return Err(Refusal::NoPlanFile);
     }
     if plan_file::count_of(file) <= number {
-        return Written::Refused(4);
+        return Err(Refusal::OutsideGrid);
     }
-    let wide = plan_file::is_too_wide(file);
-    lay_line(
-        number as i32,
-        plan_file::record_of(file, number),
-        line,
-        wide,
-    )
+    let text = line_text(number as i32, plan_file::record_of(file, number));
+    lay_unless(line, text.as_bytes(), plan_file::is_too_wide(file))
 }

@@ -1,9 +1,8 @@
 -- 01, "Numbers to hold on to": "pel 2, base 0, pitch 8, height 4: (3,1) is 97, (-1,0) is 31", each by computation. With them the same place at
 -- pel 1 and 4, the length rule at its ends, and what a read and a log2 are.
-use Rattle.std.specs.Prelude.{◌≡◌, refl, true, false, List, [], ◌∷◌, ℕ, ℤ, pos, negsuc}
+use Rattle.std.specs.Prelude.{◌≡◌, refl, true, false, List, [], ◌∷◌, ℕ, ℤ, pos, negsuc, None, Some}
 use Rattle.plane.specs.declared.Place.{Place}
 use Rattle.plane.specs.Places.{subpel_of, keeps_length, limits_hold}
-use Rattle.plane.specs.declared.Read.TheVariants.{Inside, Outside}
 use Rattle.plane.specs.Samples.{read_at, weight, log2}
 
 abbrev place : ℤ → Place
@@ -45,19 +44,19 @@ pel_3 = refl
 abbrev black : List ℕ
 black = 0 ∷ []
 
-pub read_0 : read_at black (pos 0) ≡ Inside 0
+pub read_0 : read_at black (pos 0) ≡ Some 0
 unfolding read_at
 read_0 = refl
 
-pub read_1 : read_at black (pos 1) ≡ Outside
+pub read_1 : read_at black (pos 1) ≡ None
 unfolding read_at
 read_1 = refl
 
-pub read_minus_1 : read_at black (negsuc 0) ≡ Outside
+pub read_minus_1 : read_at black (negsuc 0) ≡ None
 unfolding read_at
 read_minus_1 = refl
 
-pub both_count_0 : (weight (Inside 0) ≡ 0) × (weight Outside ≡ 0)
+pub both_count_0 : (weight (Some 0) ≡ 0) × (weight None ≡ 0)
 unfolding weight
 both_count_0 = (refl, refl)
 

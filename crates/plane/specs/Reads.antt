@@ -1,5 +1,6 @@
 -- Laws of Samples: what a read is from the front of the data on and before it, what a gathered array holds, and that both tell of a block. Assumes nothing.
 use Rattle.std.specs.Prelude.{◌≡◌, refl, Bool, List, ℕ, zero, suc, ◌+◌, ◌*◌, ◌/◌, ◌%◌, ◌≤◌, ◌<◌, ltb, ℤ, negsuc, ◌+ℤ◌, get_or, length, set, replicate}
+use Rattle.std.specs.Prelude.{None, Option, Some}
 use Rattle.std.proofs.Common.{sym, ap, ◌∙◌, ⊎_elim, mul-le-mul, add-one, length-set, get_or-set_same, get_or-set_other, lt-ltb, le-ltb}
 use Rattle.std.proofs.Math.Bool.{true, false, cond}
 use native.Mathlib.Omega.{arith}
@@ -9,8 +10,6 @@ use Rattle.std.proofs.lemmas.List.{length-replicate, get_or-replicate, set-get_o
 use Rattle.std.proofs.Math.ListN.{get_or-eq_default}
 use Rattle.whole.specs.Signed.{lt_or_ge}
 use Rattle.distance.specs.Distance.{Block, block_of, cost_of}
-use Rattle.records.specs.declared.Offset.{Offset}
-use Rattle.records.specs.declared.Offset.TheVariants.{At, Absent}
 use Rattle.distance.specs.Laws.{Agree, Bytes}
 use Rattle.distance.proofs.Views.{cost_same}
 use Rattle.plane.specs.Samples.{read_at, weight, sample_at, placed_from, nth, overlaid, source_at, gathered}
@@ -38,21 +37,21 @@ module _ (s : List ℕ) (bytes : (n : ℕ) → get_or s n 0 < 256) where
   sample_byte (pos n) = rw (sample_from_front s n) (bytes n)
   sample_byte (negsuc n) = rw (sample_before s n) (omega arith)
 
-  pub placed_byte : (origin : Offset) (pitch : ℕ) → Bytes (placed_from s origin pitch)
+  pub placed_byte : (origin : Option ℤ) (pitch : ℕ) → Bytes (placed_from s origin pitch)
   unfolding placed_from
-  placed_byte (At at) pitch y x = sample_byte (at +ℤ pos (y * pitch + x))
-  placed_byte Absent pitch y x = omega arith
+  placed_byte (Some at) pitch y x = sample_byte (at +ℤ pos (y * pitch + x))
+  placed_byte None pitch y x = omega arith
 
   -- by the cases of both origins, and not by the law above
-  pub source_byte : (pitch : ℕ) (full overlay : Offset) (w h b : ℕ) → source_at s pitch full overlay w h b < 256
+  pub source_byte : (pitch : ℕ) (full overlay : Option ℤ) (w h b : ℕ) → source_at s pitch full overlay w h b < 256
   unfolding source_at placed_from
-  source_byte pitch (At full) (At at) w h b =
+  source_byte pitch (Some full) (Some at) w h b =
       either_byte (ltb b (overlaid w h)) (sample_byte (at +ℤ pos ((b / (w / 2)) * pitch + b % (w / 2))))
       (sample_byte (full +ℤ pos ((b / w) * pitch + b % w)))
-  source_byte pitch Absent (At at) w h b =
+  source_byte pitch None (Some at) w h b =
       either_byte (ltb b (overlaid w h)) (sample_byte (at +ℤ pos ((b / (w / 2)) * pitch + b % (w / 2)))) (omega arith)
-  source_byte pitch (At full) Absent w h b = sample_byte (full +ℤ pos ((b / w) * pitch + b % w))
-  source_byte pitch Absent Absent w h b = omega arith
+  source_byte pitch (Some full) None w h b = sample_byte (full +ℤ pos ((b / w) * pitch + b % w))
+  source_byte pitch None None w h b = omega arith
 
 -- ---- what a gathered array holds
 pub gathered_none : (f : ℕ → ℕ) → gathered 0 f ≡ replicate 256 0

@@ -1,24 +1,21 @@
 -- What is read at an offset, and the blocks that are gathered from there: 01, "Evaluating and choosing", its first two paragraphs. Definitions alone.
 use Rattle.std.specs.Prelude.{Bool, true, false, cond, List, ℕ, zero, suc, ◌+◌, ◌*◌, ◌/◌, ◌%◌, ◌^◌, ltb, ℤ, pos, negsuc, ◌+ℤ◌, get_or, length, set, replicate}
-use Rattle.records.specs.declared.Offset.{Offset}
-use Rattle.records.specs.declared.Offset.TheVariants.{At, Absent}
+use Rattle.std.specs.Prelude.{None, Option, Some}
 use Rattle.distance.specs.Distance.{Block, sum}
-use Rattle.plane.specs.declared.Read.{Read}
-use Rattle.plane.specs.declared.Read.TheVariants.{Inside, Outside}
 
 -- ---- a read: the byte there, or that the place is outside the data
-abbrev within : Bool → ℕ → Read
-within true byte = Inside byte
-within false byte = Outside
+abbrev within : Bool → ℕ → Option ℕ
+within true byte = Some byte
+within false byte = None
 
-unfoldable pub read_at : List ℕ → ℤ → Read
+unfoldable pub read_at : List ℕ → ℤ → Option ℕ
 read_at s (pos n) = within (ltb n (length s)) (get_or s n 0)
-read_at s (negsuc n) = Outside
+read_at s (negsuc n) = None
 
 -- "A read outside the data counts 0."
-unfoldable pub weight : Read → ℕ
-weight (Inside byte) = byte
-weight Outside = 0
+unfoldable pub weight : Option ℕ → ℕ
+weight (Some byte) = byte
+weight None = 0
 
 unfoldable pub sample_at : List ℕ → ℤ → ℕ
 sample_at s at = weight (read_at s at)
@@ -29,9 +26,9 @@ abbrev pub placed_at : List ℕ → ℤ → ℕ → Block
 placed_at s at pitch y x = sample_at s (at +ℤ pos (y * pitch + x))
 
 -- the same from an origin that may be absent: then there are no samples, and each counts 0
-unfoldable pub placed_from : List ℕ → Offset → ℕ → Block
-placed_from s (At origin) pitch = placed_at s origin pitch
-placed_from s Absent pitch = λ y x. 0
+unfoldable pub placed_from : List ℕ → Option ℤ → ℕ → Block
+placed_from s (Some origin) pitch = placed_at s origin pitch
+placed_from s None pitch = λ y x. 0
 
 -- sample b of a block with rows of w samples
 abbrev pub nth : ℕ → Block → ℕ → ℕ
@@ -42,10 +39,10 @@ nth w block b = block (b / w) (b % w)
 abbrev pub overlaid : ℕ → ℕ → ℕ
 overlaid w h = (w / 2) * (h / 2)
 
-unfoldable pub source_at : List ℕ → ℕ → Offset → Offset → ℕ → ℕ → ℕ → ℕ
-source_at s pitch full (At overlay) w h b =
+unfoldable pub source_at : List ℕ → ℕ → Option ℤ → Option ℤ → ℕ → ℕ → ℕ → ℕ
+source_at s pitch full (Some overlay) w h b =
     cond (ltb b (overlaid w h)) (nth (w / 2) (placed_at s overlay pitch) b) (nth w (placed_from s full pitch) b)
-source_at s pitch full Absent w h b = nth w (placed_from s full pitch) b
+source_at s pitch full None w h b = nth w (placed_from s full pitch) b
 
 -- ---- an array of 256 bytes that holds f 0, f 1 .. f (n - 1), and then zeros
 unfoldable pub gathered : ℕ → (ℕ → ℕ) → List ℕ
@@ -64,6 +61,6 @@ log2 n = halvings n n
 abbrev pub total : ℕ → ℕ → Block → ℕ
 total w h block = sum h (λ y. sum w (λ x. block y x))
 
-unfoldable pub average_of : List ℕ → ℕ → Offset → ℕ → ℕ → ℕ
-average_of s pitch (At origin) w h = cond (ltb h 4) 0 (total w h (placed_at s origin pitch) / 2 ^ log2 (w * h))
-average_of s pitch Absent w h = 0
+unfoldable pub average_of : List ℕ → ℕ → Option ℤ → ℕ → ℕ → ℕ
+average_of s pitch (Some origin) w h = cond (ltb h 4) 0 (total w h (placed_at s origin pitch) / 2 ^ log2 (w * h))
+average_of s pitch None w h = 0

@@ -1,14 +1,13 @@
 -- 01, "Port order and what changes shape": "A plane is a view: its bytes, base, pitch, sides and pel in one struct that refers to them; few functions
 -- take it." What is told of a plane's bytes and place, and what a cost asks of its callers.
-use Rattle.std.specs.Prelude.{Bool, List, ℕ, ◌*◌, ◌≤◌, ◌<◌, ℤ, pos, nat_abs, length}
+use Rattle.std.specs.Prelude.{Bool, List, ℕ, ◌*◌, ◌≤◌, ◌<◌, ℤ, nat_abs, length, Option}
 use Rattle.distance.specs.Distance.{Block, cost_of}
 use Rattle.plane.specs.declared.Place.{Place}
 use Rattle.plane.specs.Places.{subpel_of, Placed, Near}
-use Rattle.plane.specs.declared.Read.{Read}
 use Rattle.plane.specs.Samples.{read_at, placed_at}
 
 -- what is read of a plane at a place: the byte at the place's offset, or that there is none
-abbrev pub place_read : List ℕ → Place → ℤ → ℤ → Read
+abbrev pub place_read : List ℕ → Place → ℤ → ℤ → Option ℕ
 place_read bytes place x y = read_at bytes (subpel_of place x y)
 
 -- the samples of a plane from an offset on, in rows that step by its own pitch, and the cost of a block against them

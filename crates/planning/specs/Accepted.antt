@@ -1,6 +1,6 @@
 -- What passing the tests says: the refusals leave all that the two passes ask. Assumes nothing.
 use Rattle.std.specs.Prelude.{◌≡◌, refl, Bool, true, ◌&&◌, ◌||◌, List, ℕ, zero, suc, ◌+◌, ◌*◌, ◌≤◌, ◌<◌, eqb, leb, ℤ, pos, negsuc, nat_abs, ◌+ℤ◌}
-use Rattle.std.specs.Prelude.{◌-ℤ◌, ◌*ℤ◌, length, get_or, ◌≤ℤ◌, ◌<ℤ◌}
+use Rattle.std.specs.Prelude.{◌-ℤ◌, ◌*ℤ◌, length, get_or, ◌≤ℤ◌, ◌<ℤ◌, None, Option, Some, Err, Ok}
 use Rattle.std.proofs.Common.{sym, ◌∙◌, ⊎_elim, mul-le-mul, mul_comm, arith, leb-true, eqb-true}
 use Rattle.std.proofs.Math.Path.{ap}
 use Rattle.std.proofs.Math.Bool.{cond}
@@ -13,9 +13,6 @@ use Rattle.whole.specs.Truth.{left_of, right_of, either_of, four_of, five_of, si
 use Rattle.whole.specs.Interval.{Within}
 use Rattle.limits.specs.Limits.{same, is_block, is_grid_side, is_step, is_frame_side, is_pel, are_shifts}
 use Rattle.limits.specs.Refused.{each_passes, let_through}
-use Rattle.score.specs.declared.Answer.{Answer}
-use Rattle.score.specs.declared.Answer.TheVariants.{Is}
-use Rattle.score.specs.declared.Answer.TheVariants as diagonal
 use Rattle.score.specs.Diagonal.{frame_fits, diagonal_of, diagonal_answer, answer_number}
 use Rattle.planes.specs.declared.Sides.{Sides}
 use Rattle.block.specs.declared.Settings.{Settings}
@@ -25,8 +22,7 @@ use Rattle.passes.specs.Asked.{Served}
 use Rattle.planes.specs.Planes.{planes_hold, holds3}
 use Rattle.planes.specs.Lying.{three_lie}
 use Rattle.planning.specs.declared.Made.{Made}
-use Rattle.planning.specs.declared.Planned.TheVariants.{Done, Refused}
-use Rattle.planning.specs.Planned.{answered}
+use Rattle.refusals.specs.Numbers.{line_of, answered}
 use Rattle.planning.specs.Refusals.{
   block_count,
   holds1,
@@ -284,25 +280,25 @@ accepted s order vectors luma u v words indices e =
     }
 
 -- ---- the diagonal of accepted sides is given
-abbrev value_of : Answer → ℤ
-value_of (Is value) = value
-value_of diagonal.Refused = pos 0
+abbrev value_of : Option ℤ → ℤ
+value_of (Some value) = value
+value_of None = pos 0
 
 module _ (width height pel : ℤ) (fits : frame_fits width height pel ≡ true) where
-  given : diagonal_answer width height pel ≡ Is (diagonal_of width height pel)
+  pub given : diagonal_answer width height pel ≡ Some (diagonal_of width height pel)
   unfolding diagonal_answer
-  given = ap (λ (t : Bool). cond t (Is (diagonal_of width height pel)) diagonal.Refused) fits
+  given = ap (λ (t : Bool). cond t (Some (diagonal_of width height pel)) None) fits
 
-  pub diagonal_given : {d : ℤ} → diagonal_answer width height pel ≡ Is d → d ≡ diagonal_of width height pel
+  pub diagonal_given : {d : ℤ} → diagonal_answer width height pel ≡ Some d → d ≡ diagonal_of width height pel
   diagonal_given e = ap value_of (sym e ∙ given)
 
-  pub diagonal_not_refused : diagonal_answer width height pel ≡ diagonal.Refused → ⊥
+  pub diagonal_not_refused : diagonal_answer width height pel ≡ None → ⊥
   diagonal_not_refused e = let two : ◌≡◌ {A = ℕ} 2 0 = ap answer_number (sym e ∙ given) in absurd (omega arith)
 
 -- ---- refused, or done
-pub answered_refused : (n : ℕ) (made : Made) → (n ≡ 0 → ⊥) → Refused n ≡ answered n made
+pub answered_refused : (n : ℕ) (made : Made) → (n ≡ 0 → ⊥) → Err (line_of n) ≡ answered n made
 answered_refused zero made h = absurd (h refl)
 answered_refused (suc n) made h = refl
 
-pub answered_done : {n : ℕ} (made : Made) → n ≡ 0 → answered n made ≡ Done made
+pub answered_done : {n : ℕ} (made : Made) → n ≡ 0 → answered n made ≡ Ok made
 answered_done made e = rw e

@@ -1,5 +1,7 @@
 -- What planning answers, and what the lent buffers hold afterwards, for every input. Definitions alone.
-use Rattle.std.specs.Prelude.{List, ◌++◌, ℕ, zero, suc, ◌*◌, ℤ, length, drop}
+use Rattle.refusals.specs.declared.Refusal.{Refusal}
+use Rattle.refusals.specs.Numbers.{answered, answer_number}
+use Rattle.std.specs.Prelude.{List, ◌++◌, ℕ, ◌*◌, ℤ, length, drop, Result}
 use Rattle.limits.specs.Sizes.{words_per_record}
 use Rattle.limits.specs.Limits.{radius_of}
 use Rattle.limits.specs.Refusals.{kept}
@@ -8,8 +10,6 @@ use Rattle.score.specs.Diagonal.{diagonal_of}
 use Rattle.block.specs.declared.Settings.{Settings}
 use Rattle.passes.specs.Fold.{words_upto, indices_upto}
 use Rattle.planning.specs.declared.Made.{Made}
-use Rattle.planning.specs.declared.Planned.{Planned}
-use Rattle.planning.specs.declared.Planned.TheVariants.{Done, Refused}
 use Rattle.planning.specs.Refusals.{block_count, refusal_of}
 
 -- "Slots are 1 + (2 x radius + 1) squared. Diagonal is pel x the largest whole number whose square is at most width squared + height squared."
@@ -17,19 +17,13 @@ unfoldable pub made_of : Settings → Made
 made_of s =
     record { slots = slots_of (radius_of s.search.search_param); diagonal = diagonal_of s.planes.luma.width s.planes.luma.height s.level.pel }
 
--- on 0 what was made, else the number
-abbrev pub answered : ℕ → Made → Planned
-answered zero made = Done made
-answered (suc n) made = Refused (suc n)
-
 -- 01's number for each answer
-abbrev pub plan_number : Planned → ℕ
-plan_number (Done made) = 0
-plan_number (Refused number) = number
+abbrev pub plan_number : Result Made Refusal → ℕ
+plan_number = answer_number
 
--- "A refusal returns the number and changes nothing lent .. a longer buffer keeps its tail."
+-- On 0 what was made. "A refusal returns the number and changes nothing lent .. a longer buffer keeps its tail."
 module _ (s : Settings) (order vectors : List ℤ) (luma u v : ℕ) where
-  unfoldable pub plan_answer : ℕ → ℕ → Planned
+  unfoldable pub plan_answer : ℕ → ℕ → Result Made Refusal
   plan_answer words indices = answered (refusal_of s order vectors luma u v words indices) (made_of s)
 
   -- 12 words a block of the order

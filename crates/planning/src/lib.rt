@@ -2,14 +2,14 @@
 #![tactic(auto)]
 
 ghost use Rattle.std.specs.Prelude.{◌≡◌, ◌+◌, ◌*◌, ◌≤◌, length};
+ghost use Rattle.refusals.specs.Numbers.{outcome};
 ghost use Rattle.planning.specs.Refusals.{block_count, holds1, axis_holds, sides_hold, holds2, vector_fits, vectors_fit, entry_holds, order_holds, has_room, refusal_of};
 ghost use Rattle.planning.specs.Planned.{made_of, plan_answer, plan_records, plan_indices};
 ghost use Rattle.planning.specs.Accepted.{Framed};
 
 use block::Settings;
-use plane::Place;
-use planes::Sides;
-use score::Answer;
+use planes::{Samples, Sides};
+use refusals::Refusal;
 
 // On 0: how many costs a block has at most, and the frame's diagonal.
 #[derive(Clone, Copy)]
@@ -18,40 +18,22 @@ pub struct Made {
     pub diagonal: i32,
 }
 
-#[derive(Clone, Copy)]
-pub enum Planned {
-    Done(Made),
-    Refused(u32),
-}
-
 fn count_of(grid: Sides) -> usize
     ensures value { result ≡ block_count grid }
     ensures upper_bound { result ≤ 4611686018427387904 }
 {
-    let x = grid.x;
-    let y = grid.y;
-    limits::blocks_of(x, y)
+    limits::blocks_of(grid.x, grid.y)
 }
 
 fn holds_1(s: Settings, listed: usize) -> bool
     ensures { result ≡ holds1 s listed }
 {
-    let search = s.search;
-    let exhaustive = search.exhaustive;
-    let search_param = search.search_param;
-    let sides = s.block;
-    let w = sides.x;
-    let h = sides.y;
-    let grid = s.grid;
-    let x = grid.x;
-    let y = grid.y;
-    let n = count_of(grid);
-    exhaustive
-        & limits::is_block(w, h)
-        & (2 <= x)
-        & (2 <= y)
-        & (listed == 2 * n)
-        & whole::within(search_param, -3, 3)
+    s.search.exhaustive
+        & limits::is_block(s.block.x, s.block.y)
+        & (2 <= s.grid.x)
+        & (2 <= s.grid.y)
+        & (listed == 2 * count_of(s.grid))
+        & whole::within(s.search.search_param, -3, 3)
 }
 
 // Of one axis. In 64 bits the end of the last block is not cut.
@@ -68,60 +50,33 @@ fn axis_holds(count: i32, step: i32, side: i32, frame: i32) -> bool
 fn sides_hold(s: Settings) -> bool
     ensures { result ≡ sides_hold s }
 {
-    let grid = s.grid;
-    let step = s.step;
-    let sides = s.block;
-    let planes = s.planes;
-    let luma: Place = planes.luma;
-    let nx = grid.x;
-    let ny = grid.y;
-    let step_x = step.x;
-    let step_y = step.y;
-    let w = sides.x;
-    let h = sides.y;
-    let width = luma.width;
-    let height = luma.height;
-    axis_holds(nx, step_x, w, width) & axis_holds(ny, step_y, h, height)
+    let luma = s.planes.luma;
+    axis_holds(s.grid.x, s.step.x, s.block.x, luma.width)
+        & axis_holds(s.grid.y, s.step.y, s.block.y, luma.height)
 }
 
 fn holds_2(s: Settings, held: usize) -> bool
     ensures { result ≡ holds2 s held }
 {
-    let level = s.level;
-    let pel = level.pel;
-    let shift = s.shift;
-    let x = shift.x;
-    let y = shift.y;
-    let planes = s.planes;
-    let grid = s.grid;
-    let n = count_of(grid);
     sides_hold(s)
-        & limits::is_pel(pel)
-        & limits::are_shifts(x, y)
-        & planes::planes_hold(planes, shift)
-        & (held == 3 * n)
+        & limits::is_pel(s.level.pel)
+        & limits::are_shifts(s.shift.x, s.shift.y)
+        & planes::planes_hold(s.planes, s.shift)
+        & (held == 3 * count_of(s.grid))
 }
 
 fn vector_fits(vectors: &[i32], i: usize) -> bool
     requires { 3 * i + 3 ≤ length vectors.now }
     ensures { result ≡ vector_fits vectors.now i }
 {
-    let x = vectors[3 * i];
-    let y = vectors[3 * i + 1];
-    whole::fits_i16(x) & whole::fits_i16(y)
+    whole::fits_i16(vectors[3 * i]) & whole::fits_i16(vectors[3 * i + 1])
 }
 
 fn vectors_fit(vectors: &[i32], n: usize) -> bool
     requires { 3 * n ≤ length vectors.now }
     ensures { result ≡ vectors_fit vectors.now n }
 {
-    let mut all = true;
-    let mut i: usize = 0;
-    while i < n {
-        all = all & vector_fits(vectors, i);
-        i += 1;
-    }
-    all
+    (0..n).all(|i| vector_fits(vectors, i))
 }
 
 fn entry_holds(grid: Sides, order: &[i32], i: usize) -> bool
@@ -130,22 +85,14 @@ fn entry_holds(grid: Sides, order: &[i32], i: usize) -> bool
 {
     let x = order[2 * i];
     let y = order[2 * i + 1];
-    let nx = grid.x;
-    let ny = grid.y;
-    (0 <= x) & (x < nx) & (0 <= y) & (y < ny)
+    (0 <= x) & (x < grid.x) & (0 <= y) & (y < grid.y)
 }
 
 fn order_holds(grid: Sides, order: &[i32], n: usize) -> bool
     requires { 2 * n ≤ length order.now }
     ensures { result ≡ order_holds grid order.now n }
 {
-    let mut all = true;
-    let mut i: usize = 0;
-    while i < n {
-        all = all & entry_holds(grid, order, i);
-        i += 1;
-    }
-    all
+    (0..n).all(|i| entry_holds(grid, order, i))
 }
 
 fn has_room(n: usize, words: usize, indices: usize) -> bool
@@ -155,44 +102,40 @@ fn has_room(n: usize, words: usize, indices: usize) -> bool
     (limits::WORDS_PER_RECORD * n <= words) & (n <= indices)
 }
 
-// The lowest number that applies, or 0. Each test may lean on those before it.
-fn refusal(
+// The lowest number that applies is given. Each test may lean on those before it.
+fn accepted(
     s: Settings,
     order: &[i32],
     vectors: &[i32],
-    luma: &[u8],
-    u: &[u8],
-    v: &[u8],
+    samples: Samples,
     words: usize,
     indices: usize,
-) -> u32
-    ensures { result ≡ refusal_of s order.now vectors.now (length luma.now) (length u.now) (length v.now) words indices }
+) -> Result<(), Refusal>
+    ensures { result ≡ outcome (refusal_of s order.now vectors.now (length samples.entry.luma.now) (length samples.entry.u.now) (length samples.entry.v.now) words indices) }
 {
-    let grid = s.grid;
-    let planes = s.planes;
-    let n = count_of(grid);
+    let n = count_of(s.grid);
     if !holds_1(s, order.len()) {
-        return 1;
+        return Err(Refusal::Setting);
     }
     if !holds_2(s, vectors.len()) {
-        return 2;
+        return Err(Refusal::Limit);
     }
     if !vectors_fit(vectors, n) {
-        return 2;
+        return Err(Refusal::Limit);
     }
-    if !planes::holds_3(planes, luma, u, v) {
-        return 3;
+    if !planes::holds_3(s.planes, samples) {
+        return Err(Refusal::PlaneLength);
     }
-    if !order_holds(grid, order, n) {
-        return 4;
+    if !order_holds(s.grid, order, n) {
+        return Err(Refusal::OutsideGrid);
     }
     if !has_room(n, words, indices) {
-        return 5;
+        return Err(Refusal::OutputLength);
     }
-    if !passes::all_fit(s, order, vectors, luma, u, v, n) {
-        return 6;
+    if !passes::all_fit(s, order, vectors, samples, n) {
+        return Err(Refusal::Misfit);
     }
-    0
+    Ok(())
 }
 
 // What an accepted plan answers.
@@ -200,24 +143,10 @@ fn made_of(s: Settings) -> Made
     requires { Framed s }
     ensures { result ≡ made_of s }
 {
-    let search = s.search;
-    let level = s.level;
-    let pel = level.pel;
-    let planes = s.planes;
-    let luma: Place = planes.luma;
-    let width = luma.width;
-    let height = luma.height;
-    let search_param = search.search_param;
-    let slots = window::slots_of(limits::radius_of(search_param));
-    let Answer::Is(diagonal) = score::diagonal(width, height, pel) else {
-        return Made {
-            slots: slots,
-            diagonal: 0,
-        };
-    };
+    let luma = s.planes.luma;
     Made {
-        slots: slots,
-        diagonal: diagonal,
+        slots: window::slots_of(limits::radius_of(s.search.search_param)),
+        diagonal: score::diagonal(luma.width, luma.height, s.level.pel).unwrap(),
     }
 }
 
@@ -225,22 +154,16 @@ pub fn plan(
     s: Settings,
     order: &[i32],
     vectors: &[i32],
-    luma: &[u8],
-    u: &[u8],
-    v: &[u8],
+    samples: Samples,
     records: &mut [i32],
     indices: &mut [i32],
-) -> Planned
-    ensures value { result ≡ plan_answer s order.now vectors.now (length luma.now) (length u.now) (length v.now) (length records.old) (length indices.old) }
-    ensures records_after { records.new ≡ plan_records s order.now vectors.now (length luma.now) (length u.now) (length v.now) records.old (length indices.old) }
-    ensures indices_after { indices.new ≡ plan_indices s order.now vectors.now (length luma.now) (length u.now) (length v.now) (length records.old) indices.old }
+) -> Result<Made, Refusal>
+    ensures value { result ≡ plan_answer s order.now vectors.now (length samples.entry.luma.now) (length samples.entry.u.now) (length samples.entry.v.now) (length records.old) (length indices.old) }
+    ensures records_after { records.new ≡ plan_records s order.now vectors.now (length samples.entry.luma.now) (length samples.entry.u.now) (length samples.entry.v.now) records.old (length indices.old) }
+    ensures indices_after { indices.new ≡ plan_indices s order.now vectors.now (length samples.entry.luma.now) (length samples.entry.u.now) (length samples.entry.v.now) (length records.old) indices.old }
 {
-    let number = refusal(s, order, vectors, luma, u, v, records.len(), indices.len());
-    if number != 0 {
-        return Planned::Refused(number);
-    }
-    let grid = s.grid;
-    let n = count_of(grid);
-    passes::write_all(s, order, vectors, luma, u, v, n, records, indices);
-    Planned::Done(made_of(s))
+    accepted(s, order, vectors, samples, records.len(), indices.len())?;
+    let n = count_of(s.grid);
+    passes::write_all(s, order, vectors, samples, n, records, indices);
+    Ok(made_of(s))
 }

@@ -1,3 +1,2 @@
 pub mod RecordSlice
-pub mod Parts
 pub mod ReadBack

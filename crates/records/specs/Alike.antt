@@ -1,22 +1,12 @@
 -- Values put together of equal parts are equal. Each lemma is over plain variables, where `cc` sees at once what it would have to dig for at a place of the
 -- code.
-use Rattle.std.specs.Prelude.{◌≡◌, ℤ}
-use Rattle.records.specs.declared.Offset.{Offset}
+use Rattle.std.specs.Prelude.{◌≡◌, ℤ, Option}
 use Rattle.records.specs.declared.Pair.{Pair}
 use Rattle.records.specs.declared.Record.{Record}
 use Rattle.records.specs.declared.Words.{Words}
 
 pub alike_pairs : {a b A B : ℤ} → a ≡ A → b ≡ B → ◌≡◌ {A = Pair} (record { first = a; second = b }) (record { first = A; second = B })
 alike_pairs p q = cc
-
--- whatever is made of five parts, or of four
-pub alike_five : {A B C D E F : Type 0} (make : A → B → C → D → E → F) {a a' : A} {b b' : B} {c c' : C} {d d' : D} {e e' : E} →
-    a ≡ a' → b ≡ b' → c ≡ c' → d ≡ d' → e ≡ e' → make a b c d e ≡ make a' b' c' d' e'
-alike_five make p q r s t = cc
-
-pub alike_four : {A B C D E : Type 0} (make : A → B → C → D → E) {a a' : A} {b b' : B} {c c' : C} {d d' : D} →
-    a ≡ a' → b ≡ b' → c ≡ c' → d ≡ d' → make a b c d ≡ make a' b' c' d'
-alike_four make p q r s = cc
 
 pub alike_words : {a b c d e f g h i j k l A B C D E F G H I J K L : ℤ} →
     a ≡ A → b ≡ B → c ≡ C → d ≡ D → e ≡ E → f ≡ F → g ≡ G → h ≡ H → i ≡ I → j ≡ J → k ≡ K → l ≡ L →
@@ -25,7 +15,7 @@ pub alike_words : {a b c d e f g h i j k l A B C D E F G H I J K L : ℤ} →
     (record { full = A; overlay = B; u = C; v = D; average = E; pos = F; cpos = G; predictor = H; window_x = I; window_y = J; sad = K; last = L })
 alike_words p₀ p₁ p₂ p₃ p₄ p₅ p₆ p₇ p₈ p₉ q₀ q₁ = cc
 
-pub alike_records : {a b c d e A B C D E : Offset} {f g h i j F G H I J : Pair} {k l m K L M : ℤ} →
+pub alike_records : {a b c d e A B C D E : Option ℤ} {f g h i j F G H I J : Pair} {k l m K L M : ℤ} →
     a ≡ A → b ≡ B → c ≡ C → d ≡ D → e ≡ E → f ≡ F → g ≡ G → h ≡ H → i ≡ I → j ≡ J → k ≡ K → l ≡ L → m ≡ M →
     ◌≡◌ {A = Record}
     (record {

@@ -1,13 +1,11 @@
 -- 01, "Numbers to hold on to": its lines about pairs and last words, each by computation. proofs/Settings has its line about lambda settings.
-use Rattle.std.specs.Prelude.{◌≡◌, refl, ℤ, pos, negsuc}
-use Rattle.records.specs.declared.Offset.TheVariants.{Absent}
+use Rattle.std.specs.Prelude.{◌≡◌, refl, ℤ, pos, negsuc, None, Some}
 use Rattle.records.specs.declared.Pair.{Pair}
 use Rattle.records.specs.declared.Record.{Record}
-use Rattle.records.specs.declared.PackedPair.TheVariants as pair_answers
 use Rattle.records.specs.Packing.{packed_pair, pair_number, record_fits, record_words, packed_record, record_number}
 
 -- "pair (1,-1) is -65535; 32767 fits, 32768 is 6"
-pub pair_1_minus_1 : packed_pair (pos 1) (negsuc 0) ≡ pair_answers.Fits (negsuc 65534)
+pub pair_1_minus_1 : packed_pair (pos 1) (negsuc 0) ≡ Some (negsuc 65534)
 unfolding packed_pair
 pair_1_minus_1 = refl
 
@@ -29,11 +27,11 @@ listed lambda flags =
     let none : Pair = record { first = pos 0; second = pos 0 } in
     let empty : Pair = record { first = pos 0; second = negsuc 0 } in
     record {
-      full = Absent;
-      overlay = Absent;
-      u = Absent;
-      v = Absent;
-      average = Absent;
+      full = None;
+      overlay = None;
+      u = None;
+      v = None;
+      average = None;
       pos = none;
       cpos = none;
       predictor = record { first = pos 3; second = negsuc 3 };

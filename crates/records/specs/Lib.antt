@@ -1,7 +1,6 @@
 pub mod Lambda
 pub mod Packing
 pub mod Unpacking
-pub mod Parts
 pub mod Alike
 pub mod RoundTrip
 pub mod Examples

@@ -2,31 +2,25 @@
 -- "Record words: full, overlay, u, v, average; pairs position, chroma position (both x pel), predictor, x window, y window; SAD; lambda x 4 + flags
 -- (BAD 1, NEGATIVE 2). Pairs fit i16, lambda is from -2^28 to 2^28 - 1, flags are 0 to 3, and no present offset is i32::MIN; any other record doesn't fit."
 -- Definitions alone.
-use Rattle.std.specs.Prelude.{Bool, true, ◌&&◌, cond, ℕ, ℤ, pos, negsuc, ◌+ℤ◌, ◌*ℤ◌}
+use Rattle.std.specs.Prelude.{Bool, true, ◌&&◌, cond, ℕ, ℤ, pos, negsuc, ◌+ℤ◌, ◌*ℤ◌, None, Option, Some}
 use Rattle.std.specs.Int.Signed.{lt_z}
 use Rattle.std.specs.Int.{w32}
 use Rattle.whole.specs.Numbers.{lies_in, mod_z, wrapped, fits_i16}
-use Rattle.records.specs.declared.Offset.{Offset}
-use Rattle.records.specs.declared.Offset.TheVariants.{At, Absent}
 use Rattle.records.specs.declared.Pair.{Pair}
 use Rattle.records.specs.declared.Record.{Record}
 use Rattle.records.specs.declared.Words.{Words}
-use Rattle.records.specs.declared.PackedPair.{PackedPair}
-use Rattle.records.specs.declared.PackedPair.TheVariants as pair_answers
-use Rattle.records.specs.declared.Packed.{Packed}
-use Rattle.records.specs.declared.Packed.TheVariants as answers
 
 -- ---- an offset: "In a word, i32::MIN is absent."
 abbrev pub absent_word : ℤ
 absent_word = negsuc 2147483647
 
-abbrev pub offset_word : Offset → ℤ
-offset_word (At place) = place
-offset_word Absent = absent_word
+abbrev pub offset_word : Option ℤ → ℤ
+offset_word (Some place) = place
+offset_word None = absent_word
 
-abbrev pub offset_fits : Offset → Bool
-offset_fits (At place) = lt_z absent_word place
-offset_fits Absent = true
+abbrev pub offset_fits : Option ℤ → Bool
+offset_fits (Some place) = lt_z absent_word place
+offset_fits None = true
 
 -- ---- a pair: the first part's 16 bits low, the second's high
 abbrev pub pair_fits : Pair → Bool
@@ -35,10 +29,10 @@ pair_fits pair = fits_i16 pair.first && fits_i16 pair.second
 abbrev pub pair_word : Pair → ℤ
 pair_word pair = wrapped w32 (pair.second *ℤ pos 65536 +ℤ pos (mod_z pair.first 65536))
 
-unfoldable pub packed_pair : ℤ → ℤ → PackedPair
+unfoldable pub packed_pair : ℤ → ℤ → Option ℤ
 packed_pair first second =
     let pair : Pair = record { first = first; second = second } in
-    cond (pair_fits pair) (pair_answers.Fits (pair_word pair)) pair_answers.Misfit
+    cond (pair_fits pair) (Some (pair_word pair)) None
 
 -- ---- the last word: lambda x 4 + flags
 abbrev pub lambda_fits : ℤ → Bool
@@ -77,14 +71,14 @@ record_words r =
       last = last_word r.lambda r.flags;
     }
 
-unfoldable pub packed_record : Record → Packed
-packed_record r = cond (record_fits r) (answers.Fits (record_words r)) answers.Misfit
+unfoldable pub packed_record : Record → Option Words
+packed_record r = cond (record_fits r) (Some (record_words r)) None
 
 -- ---- 01's numbers for the answers: 0 done, 6 "in planning or packing, a record doesn't fit"
-abbrev pub pair_number : PackedPair → ℕ
-pair_number (pair_answers.Fits word) = 0
-pair_number pair_answers.Misfit = 6
+abbrev pub pair_number : Option ℤ → ℕ
+pair_number (Some word) = 0
+pair_number None = 6
 
-abbrev pub record_number : Packed → ℕ
-record_number (answers.Fits words) = 0
-record_number answers.Misfit = 6
+abbrev pub record_number : Option Words → ℕ
+record_number (Some words) = 0
+record_number None = 6

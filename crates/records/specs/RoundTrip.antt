@@ -1,7 +1,7 @@
 -- Packing and unpacking undo each other. Assumes nothing.
 -- `pack_then_unpack`: a record that was packed is read back from its words. `unpack_then_pack`: any 12 words are written again from the record that
 -- they hold, exactly where the lambda in the last of them fits; every other part of what is unpacked fits always.
-use Rattle.std.specs.Prelude.{◌≡◌, refl, Bool, true, false, ◌&&◌, cond, ℕ, ◌<◌, ℤ, pos, negsuc, ◌+ℤ◌, ◌*ℤ◌}
+use Rattle.std.specs.Prelude.{◌≡◌, refl, Bool, true, false, ◌&&◌, cond, ℕ, ◌<◌, ℤ, pos, negsuc, ◌+ℤ◌, ◌*ℤ◌, None, Option, Some}
 use Rattle.std.proofs.Common.{sym, ap, ◌∙◌, arith, lit<, SFits, to_z}
 use Rattle.std.specs.Int.Signed.{lt_z, le_z, shr_z}
 use Rattle.std.specs.Int.{w16, w32}
@@ -10,12 +10,9 @@ use Rattle.whole.specs.Signed.{signed, range, add_is, times_is, holds}
 use Rattle.whole.specs.Truth.{left_of, right_of, both_of, lies_low, lies_high, five_of}
 use Rattle.whole.specs.Floor.{floor_is, floor_low, floor_high, mod_below, floor_only, mod_only, mod_more}
 use Rattle.whole.specs.Wrapping.{wrapped_is, wrapped_same, wrapped_fits}
-use Rattle.records.specs.declared.Offset.{Offset}
-use Rattle.records.specs.declared.Offset.TheVariants.{At, Absent}
 use Rattle.records.specs.declared.Pair.{Pair}
 use Rattle.records.specs.declared.Record.{Record}
 use Rattle.records.specs.declared.Words.{Words}
-use Rattle.records.specs.declared.Packed.TheVariants as answers
 use Rattle.records.specs.Packing.{
   absent_word,
   offset_word,
@@ -100,9 +97,9 @@ word_back {word} f =
     ∙ wrapped_same w32 f
 
 -- ---- offsets
-pub offset_back : (offset : Offset) → offset_fits offset ≡ true → offset_of (offset_word offset) ≡ offset
-offset_back (At place) e = simp e
-offset_back Absent e = refl
+pub offset_back : (offset : Option ℤ) → offset_fits offset ≡ true → offset_of (offset_word offset) ≡ offset
+offset_back (Some place) e = simp e
+offset_back None e = refl
 
 by_test : {word : ℤ} (t : Bool) → lt_z absent_word word ≡ t → SFits w32 word → (offset_fits (offset_of word) ≡ true) × (offset_word (offset_of word) ≡ word)
 by_test true e f = (simp e, simp e)
@@ -171,12 +168,12 @@ back r fits =
     (pair_back r.window_y p.4)
     refl l.high l.low
 
-by_fit : (t : Bool) {r : Record} {w : Words} → record_fits r ≡ t → cond t (answers.Fits (record_words r)) answers.Misfit ≡ answers.Fits w → record_of w ≡ r
+by_fit : (t : Bool) {r : Record} {w : Words} → record_fits r ≡ t → cond t (Some (record_words r)) None ≡ Some w → record_of w ≡ r
 by_fit true {r} {w} fits e = let same : record_words r ≡ w = cc in ap record_of (sym same) ∙ back r fits
 by_fit false fits e = let clash : ◌≡◌ {A = ℕ} 0 1 = cc in absurd (omega arith)
 
 -- a record that was packed is read back from its words
-pub pack_then_unpack : {r : Record} {w : Words} → packed_record r ≡ answers.Fits w → record_of w ≡ r
+pub pack_then_unpack : {r : Record} {w : Words} → packed_record r ≡ Some w → record_of w ≡ r
 unfolding packed_record
 pack_then_unpack {r} {w} e = by_fit (record_fits r) refl e
 
@@ -214,6 +211,6 @@ unpacked_fits w h =
     true_and (both_of offsets pairs) ∙ last_of_word w.last
 
 -- any 12 words are written again from the record that they hold, exactly where the lambda in the last of them fits
-pub unpack_then_pack : (w : Words) → Held w → packed_record (record_of w) ≡ cond (lambda_fits (shr_z w.last 4)) (answers.Fits w) answers.Misfit
+pub unpack_then_pack : (w : Words) → Held w → packed_record (record_of w) ≡ cond (lambda_fits (shr_z w.last 4)) (Some w) None
 unfolding packed_record
 unpack_then_pack w h = rw (unpacked_fits w h, words_back w h)

@@ -4,162 +4,132 @@
 // grid and, where it is asked for, the output. All were 0 before.
 #![tactic(auto)]
 
-ghost use Rattle.std.specs.Prelude.{◌≡◌, true, ◌+◌, ◌*◌, ◌<◌, ◌≤◌, length};
-ghost use Rattle.cases.specs.Places.{Sized};
-ghost use Rattle.replay_grid.specs.Sizes.{blocks_of, output_of, finish_inputs, finish_answers};
+ghost use Rattle.std.specs.Prelude.{◌≡◌, true, ◌+◌, ◌*◌, ◌<◌, ◌≤◌, length, IfSome};
+ghost use Rattle.cases.specs.Places.{IsSized};
+ghost use Rattle.replay_grid.specs.Sizes.{blocks_of, finish_inputs, finish_answers};
 
-use serpentine::{Block, Position};
+use cases::Case;
+use refusals::Refusal;
+use whole::wrap32;
 
-pub fn serpentine_position_agrees(numbers: &[i64; 8200], inputs: usize, count: usize) -> bool
-    ensures { result ≡ true → Sized 4 1 inputs count }
+pub fn serpentine_position_agrees(case: &Case) -> bool
+    ensures { result ≡ true → IsSized 4 1 case.now }
 {
-    let nx = whole::wrap32(numbers[0]);
-    let ny = whole::wrap32(numbers[1]);
-    let bx = whole::wrap32(numbers[2]);
-    let by = whole::wrap32(numbers[3]);
-    let answer = serpentine::serpentine_position(nx, ny, bx, by);
-    let Position::At(position) = answer else {
+    let Some(words) = case.words::<4>() else {
         return false;
     };
-    cases::sized(inputs, count, 4, 1) & cases::is(numbers[4], position)
-}
-
-pub fn serpentine_block_agrees(numbers: &[i64; 8200], inputs: usize, count: usize) -> bool
-    ensures { result ≡ true → Sized 3 2 inputs count }
-{
-    let nx = whole::wrap32(numbers[0]);
-    let ny = whole::wrap32(numbers[1]);
-    let position = whole::wrap32(numbers[2]);
-    let answer = serpentine::serpentine_block(nx, ny, position);
-    let Block::At(bx, by) = answer else {
+    let [nx, ny, bx, by] = words;
+    let Ok(position) = serpentine::serpentine_position(nx, ny, bx, by) else {
         return false;
     };
-    cases::sized(inputs, count, 3, 2) & (cases::is(numbers[3], bx) & cases::is(numbers[4], by))
+    case.answered(&[position])
 }
 
-// How many blocks the sides say that the grid has; none for more than a line has room for.
-fn blocks(numbers: &[i64; 8200]) -> usize
-    ensures { (result ≡ blocks_of numbers.now) × (result ≤ 4096) }
+pub fn serpentine_block_agrees(case: &Case) -> bool
+    ensures { result ≡ true → IsSized 3 2 case.now }
 {
-    let nx = cases::limited(numbers[0], 4096);
-    let ny = cases::limited(numbers[1], 4096);
-    let all = nx * ny;
-    if 4096 < all {
-        return 0;
-    }
-    all
+    let Some(words) = case.words::<3>() else {
+        return false;
+    };
+    let [nx, ny, position] = words;
+    let Ok((bx, by)) = serpentine::serpentine_block(nx, ny, position) else {
+        return false;
+    };
+    case.answered(&[bx, by])
 }
 
-// Whether the values are the numbers from a place on.
-fn holds(numbers: &[i64; 8200], from: usize, values: &[i32]) -> bool
-    requires { from + length values.now ≤ 8200 }
+// How many blocks the grid has, of which a line has room for 4,096.
+fn blocks(inputs: &[i64]) -> Option<usize>
+    ensures { IfSome result (λ blocks. (blocks ≡ blocks_of inputs.now) × (0 < blocks) × (blocks ≤ 4096)) }
 {
-    let mut all = true;
-    let mut k: usize = 0;
-    while k < values.len() {
-        all = all & cases::is(numbers[from + k], values[k]);
-        k += 1;
-    }
-    all
+    let [nx, ny, ..] = inputs else {
+        return None;
+    };
+    let blocks = cases::up_to(*nx, 4096)? * cases::up_to(*ny, 4096)?;
+    (1..=4096).contains(&blocks).then_some(blocks)
 }
 
-// One number less is too short: so the order fills what it is lent.
-fn is_order(numbers: &[i64; 8200], order: &mut [i32]) -> bool
-    requires order_nonzero { 0 < length order.old }
-    requires order_len_bound { length order.old ≤ 8192 }
+// The order that is put into what is lent. One number less is too short: so the order fills it.
+fn is_filled(nx: i32, ny: i32, order: &mut [i32]) -> bool
+    requires { 0 < length order.old }
 {
-    let nx = whole::wrap32(numbers[0]);
-    let ny = whole::wrap32(numbers[1]);
     let short = order.len() - 1;
-    let refused = serpentine::serpentine_order(nx, ny, &mut order[..short]);
-    let done = serpentine::serpentine_order(nx, ny, order);
-    (refused == 5) & (done == 0) & holds(numbers, 2, order)
+    serpentine::serpentine_order(nx, ny, &mut order[..short]) == Err(Refusal::OutputLength)
+        && serpentine::serpentine_order(nx, ny, order).is_ok()
 }
 
-pub fn serpentine_order_agrees(numbers: &[i64; 8200], inputs: usize, count: usize) -> bool
-    ensures { result ≡ true → Sized 2 (2 * blocks_of numbers.now) inputs count }
+pub fn serpentine_order_agrees(case: &Case) -> bool
+    ensures { result ≡ true → IsSized 2 (2 * blocks_of case.now.inputs.now) case.now }
 {
-    let mut order = [7i32; 8192];
-    let long = 2 * blocks(numbers);
-    if long == 0 {
+    let (Some(words), Some(blocks)) = (case.words::<2>(), blocks(case.inputs)) else {
         return false;
+    };
+    let [nx, ny] = words;
+    let mut order = [7; 8192];
+    let order = &mut order[..2 * blocks];
+    is_filled(nx, ny, order) && case.answered(order)
+}
+
+// The first numbers as numbers of 32 bits; where there are no more, zeros.
+fn words<const N: usize>(numbers: &[i64]) -> [i32; N] {
+    let mut words = [0; N];
+    for (word, number) in words.iter_mut().zip(numbers) {
+        *word = wrap32(*number);
     }
-    cases::sized(inputs, count, 2, long) & is_order(numbers, &mut order[..long])
+    words
 }
 
-// The numbers from a place on. A case has at most 250 of them, its bests.
-fn words_from(numbers: &[i64; 8200], from: usize) -> [i32; 250]
-    requires { from ≤ 200 }
+// How many numbers the vectors are, and the output, which has none where it is not asked for.
+fn lengths(inputs: &[i64]) -> Option<(usize, usize)>
+    ensures { IfSome result (λ lengths. (lengths.0 + lengths.1 ≡ finish_answers inputs.now) × (lengths.0 ≤ 75) × (lengths.1 ≤ 50)) }
 {
-    let mut out = [0i32; 250];
-    for k in 0..250 {
-        out[k] = whole::wrap32(numbers[from + k]);
+    let [_, _, _, asked, ..] = inputs else {
+        return None;
+    };
+    let blocks = blocks(inputs).filter(|blocks| *blocks <= 25)?;
+    match asked {
+        0 => Some((3 * blocks, 0)),
+        1 => Some((3 * blocks, 2 * blocks)),
+        _ => None,
     }
-    out
 }
 
-// An output that is not asked for is lent with no room.
-fn output_room(asked: usize, blocks: usize) -> usize
-    requires { blocks ≤ 25 }
-    ensures { (result ≡ output_of asked blocks) × (result ≤ 50) }
+// The vectors, and behind them the output. A case with more blocks or entries than there is room for has none.
+fn finished<'a>(inputs: &[i64], room: &'a mut [i32; 125]) -> Option<&'a [i32]>
+    ensures inputs { IfSome result (λ _. length inputs.now ≡ finish_inputs inputs.now) }
+    ensures answers { IfSome result (λ answers. length answers.now ≡ finish_answers inputs.now) }
 {
-    if asked == 1 {
-        return 2 * blocks;
+    let [nx, ny, diagonal, asked, count, entries @ ..] = inputs else {
+        return None;
+    };
+    let (vectors, output) = lengths(inputs)?;
+    let end = vectors + output;
+    let n = cases::up_to(*count, 50)?;
+    if entries.len() != 6 * n {
+        return None;
     }
-    0
-}
-
-fn is_finished(
-    numbers: &[i64; 8200],
-    indices: &[i32],
-    bests: &[i32],
-    from: usize,
-    vectors: &mut [i32],
-    output: &mut [i32],
-) -> bool
-    requires { from + length vectors.old + length output.old ≤ 8200 }
-{
-    let nx = whole::wrap32(numbers[0]);
-    let ny = whole::wrap32(numbers[1]);
-    let diagonal = whole::wrap32(numbers[2]);
-    let asked = numbers[3] == 1;
-    let answer = finishing::finish(nx, ny, indices, bests, diagonal, asked, vectors, output);
-    let behind = from + vectors.len();
-    (answer == 0) & holds(numbers, from, vectors) & holds(numbers, behind, output)
-}
-
-fn entries_agree(numbers: &[i64; 8200], n: usize, blocks: usize, room: usize) -> bool
-    requires { (n ≤ 50) × (blocks ≤ 25) × (room ≤ 50) }
-{
-    let indices = words_from(numbers, 5);
-    let bests = words_from(numbers, 5 + n);
-    let mut vectors = [0i32; 75];
-    let mut output = [0i32; 50];
-    is_finished(
-        numbers,
-        &indices[..n],
-        &bests[..5 * n],
-        5 + 6 * n,
-        &mut vectors[..3 * blocks],
-        &mut output[..room],
+    let (indices, bests) = entries.split_at(n);
+    let (vectors, output) = room[..end].split_at_mut(vectors);
+    finishing::finish(
+        wrap32(*nx),
+        wrap32(*ny),
+        &words::<50>(indices)[..n],
+        &words::<250>(bests)[..5 * n],
+        wrap32(*diagonal),
+        *asked == 1,
+        vectors,
+        output,
     )
+    .ok()?;
+    Some(&room[..end])
 }
 
-// A case with more blocks or entries than there is room for differs.
-pub fn finish_agrees(numbers: &[i64; 8200], inputs: usize, count: usize) -> bool
-    ensures { result ≡ true → Sized (finish_inputs numbers.now) (finish_answers numbers.now) inputs count }
+pub fn finish_agrees(case: &Case) -> bool
+    ensures { result ≡ true → IsSized (finish_inputs case.now.inputs.now) (finish_answers case.now.inputs.now) case.now }
 {
-    let n = cases::limited(numbers[4], 50);
-    let grid = blocks(numbers);
-    if grid == 0 {
+    let mut room = [0; 125];
+    let Some(answers) = finished(case.inputs, &mut room) else {
         return false;
-    }
-    if 25 < grid {
-        return false;
-    }
-    let asked = cases::limited(numbers[3], 1);
-    let room = output_room(asked, grid);
-    let told = (numbers[3] == asked as i64) & (numbers[4] == n as i64);
-    let same = entries_agree(numbers, n, grid, room);
-    cases::sized(inputs, count, 5 + 6 * n, 3 * grid + room) & (told & same)
+    };
+    case.answered(answers)
 }

@@ -4,23 +4,27 @@
 #![tactic(auto)]
 
 ghost use Rattle.std.specs.Prelude.{◌≡◌, true};
-ghost use Rattle.cases.specs.Places.{Sized};
+ghost use Rattle.cases.specs.Places.{IsSized};
 ghost use Rattle.level_places.specs.Asked.{Rowed};
 
+use cases::Case;
 use level_places::{Pitches, SuperFrame};
 use planes::Sides;
+use whole::wrap32;
 
-pub fn plane_size_agrees(numbers: &[i64; 8200], inputs: usize, count: usize) -> bool
-    ensures { result ≡ true → Sized 2 1 inputs count }
+pub fn plane_size_agrees(case: &Case) -> bool
+    ensures { result ≡ true → IsSized 2 1 case.now }
 {
-    let size = whole::wrap32(numbers[0]);
-    let level = whole::wrap32(numbers[1]);
-    let answer = level_places::plane_size(size, level);
-    cases::sized(inputs, count, 2, 1) & cases::is(numbers[2], answer)
+    let Some(words) = case.words::<2>() else {
+        return false;
+    };
+    let [size, level] = words;
+    case.answered(&[level_places::plane_size(size, level)])
 }
 
-fn frame_of(numbers: &[i64; 8200]) -> SuperFrame {
-    let pitch = whole::wrap32(numbers[6]);
+fn frame_of(numbers: &[i64; 8]) -> SuperFrame {
+    let [x, y, shift_x, shift_y, pel, level, pitch, separate] = numbers;
+    let pitch = wrap32(*pitch);
     let pitches = Pitches {
         luma: pitch,
         u: pitch,
@@ -28,17 +32,17 @@ fn frame_of(numbers: &[i64; 8200]) -> SuperFrame {
     };
     SuperFrame {
         frame: Sides {
-            x: whole::wrap32(numbers[0]),
-            y: whole::wrap32(numbers[1]),
+            x: wrap32(*x),
+            y: wrap32(*y),
         },
         shift: Sides {
-            x: whole::wrap32(numbers[2]),
-            y: whole::wrap32(numbers[3]),
+            x: wrap32(*shift_x),
+            y: wrap32(*shift_y),
         },
-        pel: whole::wrap32(numbers[4]),
-        level: whole::wrap32(numbers[5]),
+        pel: wrap32(*pel),
+        level: wrap32(*level),
         pitch: pitches,
-        separate: numbers[7] == 1,
+        separate: *separate == 1,
         source_pitch: pitches,
     }
 }
@@ -47,34 +51,22 @@ fn frame_of(numbers: &[i64; 8200]) -> SuperFrame {
 fn served(frame: SuperFrame) -> bool
     ensures { result ≡ true → Rowed frame }
 {
-    let sides = frame.frame;
-    let height = sides.y;
-    let pel = frame.pel;
-    let level = frame.level;
-    whole::within(height, 0, 16384) & limits::is_pel(pel) & whole::within(level, 0, 15)
+    limits::is_pel(frame.pel)
+        & (0..=16384).contains(&frame.frame.y)
+        & (0..=15).contains(&frame.level)
 }
 
-pub fn level_offset_agrees(numbers: &[i64; 8200], inputs: usize, count: usize) -> bool
-    ensures { result ≡ true → Sized 8 2 inputs count }
+pub fn level_offset_agrees(case: &Case) -> bool
+    ensures { result ≡ true → IsSized 8 2 case.now }
 {
+    let (Some(numbers), [luma, chroma]) = (case.inputs.as_array::<8>(), case.answers) else {
+        return false;
+    };
     let frame = frame_of(numbers);
-    let pitch = whole::wrap32(numbers[6]);
-    let shift = whole::wrap32(numbers[3]);
-    if !served(frame) {
+    let pitch = frame.pitch.luma;
+    if !served(frame) || !(0..=65536).contains(&pitch) {
         return false;
     }
-    if !whole::within(pitch, 0, 65536) {
-        return false;
-    }
-    let luma = level_places::level_offset(frame, pitch, 0);
-    let chroma = level_places::level_offset(frame, pitch, shift);
-    cases::sized(inputs, count, 8, 2) & (told(numbers[8], luma) & told(numbers[9], chroma))
-}
-
-// An offset below 2^63 is the number that stands there.
-fn told(number: i64, offset: usize) -> bool {
-    if number < 0 {
-        return false;
-    }
-    number as usize == offset
+    usize::try_from(*luma) == Ok(level_places::level_offset(frame, pitch, 0))
+        && usize::try_from(*chroma) == Ok(level_places::level_offset(frame, pitch, frame.shift.y))
 }

@@ -3,70 +3,73 @@
 // both blocks, row by row; a score's the vector, SAD, diagonal and average.
 #![tactic(auto)]
 
-ghost use Rattle.std.specs.Prelude.{◌≡◌, true, ◌+◌, ◌*◌, ◌≤◌};
-ghost use Rattle.cases.specs.Places.{Sized};
+ghost use Rattle.std.specs.Prelude.{◌≡◌, true, ◌+◌, ◌*◌, length, IfSome};
+ghost use Rattle.cases.specs.Places.{IsSized};
 ghost use Rattle.replay_measures.specs.Sizes.{samples_of};
 
+use cases::Case;
 use hirupango::{hirupango_block_cost, hirupango_packed_score};
+use whole::wrap32;
 
-pub fn root_agrees(numbers: &[i64; 8200], inputs: usize, count: usize) -> bool
-    ensures { result ≡ true → Sized 1 1 inputs count }
+pub fn root_agrees(case: &Case) -> bool
+    ensures { result ≡ true → IsSized 1 1 case.now }
 {
-    let n = whole::wrap32(numbers[0]);
-    if n < 0 {
+    let Some(words) = case.words::<1>() else {
         return false;
-    }
-    cases::sized(inputs, count, 1, 1) & (numbers[1] == whole::root(n as u32) as i64)
+    };
+    let [n] = words;
+    let Ok(n) = u32::try_from(n) else {
+        return false;
+    };
+    case.answered(&[whole::root(n)])
 }
 
-pub fn score_agrees(numbers: &[i64; 8200], inputs: usize, count: usize) -> bool
-    ensures { result ≡ true → Sized 5 1 inputs count }
+pub fn score_agrees(case: &Case) -> bool
+    ensures { result ≡ true → IsSized 5 1 case.now }
 {
-    let x = whole::wrap32(numbers[0]);
-    let y = whole::wrap32(numbers[1]);
-    let sad = whole::wrap32(numbers[2]);
-    let diagonal = whole::wrap32(numbers[3]);
-    let average = whole::wrap32(numbers[4]);
-    let mut out = [0u8; 4];
+    let Some(words) = case.words::<5>() else {
+        return false;
+    };
+    let [x, y, sad, diagonal, average] = words;
+    let mut out = [0; 4];
     let number = hirupango_packed_score(x, y, sad, diagonal, average, &mut out);
-    let is_word = cases::is(numbers[5], little_endian::word_at(&out, 0));
-    cases::sized(inputs, count, 5, 1) & ((number == 0) & is_word)
+    number == 0 && case.answered(&[i32::from_le_bytes(out)])
 }
 
-// The 256 numbers from a place on, as bytes.
-fn block(numbers: &[i64; 8200], from: usize) -> [u8; 256]
-    requires { from ≤ 259 }
+// The samples of both blocks, where there are as many as the sides say.
+fn blocks(inputs: &[i64]) -> Option<(&[i64], &[i64])>
+    ensures { IfSome result (λ _. length inputs.now ≡ 3 + 2 * samples_of inputs.now) }
 {
-    let mut out = [0u8; 256];
-    for k in 0..256 {
-        out[k] = cases::byte(numbers[from + k]);
+    let [_, width, height, samples @ ..] = inputs else {
+        return None;
+    };
+    let area = cases::limited(*width, 16) * cases::limited(*height, 16);
+    if samples.len() != 2 * area {
+        return None;
     }
-    out
+    Some(samples.split_at(area))
 }
 
-// How many samples the sides say that a block has.
-fn samples(numbers: &[i64; 8200]) -> usize
-    ensures { (result ≡ samples_of numbers.now) × (result ≤ 256) }
+pub fn cost_agrees(case: &Case) -> bool
+    ensures { result ≡ true → IsSized (3 + 2 * samples_of case.now.inputs.now) 1 case.now }
 {
-    cases::limited(numbers[1], 16) * cases::limited(numbers[2], 16)
-}
-
-fn is_cost(numbers: &[i64; 8200], area: usize) -> bool
-    requires { area ≤ 256 }
-{
-    let measure = whole::wrap32(numbers[0]);
-    let width = whole::wrap32(numbers[1]);
-    let height = whole::wrap32(numbers[2]);
-    let a = block(numbers, 3);
-    let b = block(numbers, 3 + area);
-    let mut out = [0u8; 4];
-    let number = hirupango_block_cost(measure, width, height, &a, width, &b, width, &mut out);
-    (number == 0) & cases::is(numbers[3 + 2 * area], little_endian::word_at(&out, 0))
-}
-
-pub fn cost_agrees(numbers: &[i64; 8200], inputs: usize, count: usize) -> bool
-    ensures { result ≡ true → Sized (3 + 2 * samples_of numbers.now) 1 inputs count }
-{
-    let area = samples(numbers);
-    cases::sized(inputs, count, 3 + 2 * area, 1) & is_cost(numbers, area)
+    let [measure, width, height, ..] = case.inputs else {
+        return false;
+    };
+    let Some((a, b)) = blocks(case.inputs) else {
+        return false;
+    };
+    let width = wrap32(*width);
+    let mut out = [0; 4];
+    let number = hirupango_block_cost(
+        wrap32(*measure),
+        width,
+        wrap32(*height),
+        &cases::bytes::<256>(a),
+        width,
+        &cases::bytes::<256>(b),
+        width,
+        &mut out,
+    );
+    number == 0 && case.answered(&[i32::from_le_bytes(out)])
 }

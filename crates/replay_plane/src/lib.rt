@@ -6,194 +6,186 @@
 // lie outside the bytes. Offsets and samples are asked of a view.
 #![tactic(auto)]
 
-ghost use Rattle.std.specs.Prelude.{◌≡◌, true, ◌⊎◌, ◌+◌, ◌*◌, ◌≤◌};
-ghost use Rattle.cases.specs.Places.{Sized};
-ghost use Rattle.plane.specs.Places.{Placed, Coordinate, Located};
-ghost use Rattle.replay_plane.specs.Sizes.{block_inputs, block_answers, sample_inputs, read_answers};
+ghost use Rattle.std.specs.Prelude.{◌≡◌, true, ◌⊎◌, ◌≤◌, ◌*◌, length, IfSome};
+ghost use Rattle.cases.specs.Places.{IsSized};
+ghost use Rattle.cases.specs.Samples.{limited_to};
+ghost use Rattle.plane.specs.Places.{Placed, Coordinate, Near, Located};
+ghost use Rattle.replay_plane.specs.Sizes.{block_inputs, block_answers, sample_inputs};
 
+use cases::Case;
+use distance::Rows;
 use plane::{Place, Read};
+use plane_view::PlaneView;
+use whole::wrap32;
 
 // Whether the plane is one that an offset can be asked of.
 fn served(place: Place) -> bool
     ensures { result ≡ true → Placed place }
 {
-    let base = place.base;
-    let width = place.width;
-    let height = place.height;
-    (base <= 2147483647)
-        & whole::within(width, 0, 16384)
-        & whole::within(height, 0, 16384)
-        & plane::within_limits(place)
-}
-
-// A base below zero is none that a served plane has.
-fn base_of(number: i64) -> usize {
-    let base = whole::wrap32(number);
-    if base < 0 {
-        return 2147483648;
-    }
-    base as usize
-}
-
-fn place_of(numbers: &[i64; 8200]) -> Place {
-    Place {
-        base: base_of(numbers[0]),
-        pitch: whole::wrap32(numbers[1]),
-        width: whole::wrap32(numbers[2]),
-        height: whole::wrap32(numbers[3]),
-        pel: whole::wrap32(numbers[4]),
-    }
+    (place.base <= 2147483647)
+        & (0..=16384).contains(&place.width)
+        & (0..=16384).contains(&place.height)
+        & place.within_limits()
 }
 
 // x and y are numbers of 32 bits.
 fn coordinate(number: i64) -> i64
     ensures { Coordinate result }
 {
-    whole::wrap32(number) as i64
+    i64::from(wrap32(number))
 }
 
-pub fn offset_agrees(numbers: &[i64; 8200], inputs: usize, count: usize) -> bool
-    ensures { result ≡ true → Sized 7 2 inputs count }
+// What a case asks of a plane: where it stands, and x and y.
+#[derive(Clone, Copy)]
+struct Asked {
+    place: Place,
+    x: i64,
+    y: i64,
+    ghost located: { Located place x y },
+}
+
+impl Asked {
+    // Of a plane that can't be asked, and of a base below zero, nothing is.
+    fn of(numbers: &[i64; 7]) -> Option<Asked> {
+        let [base, pitch, width, height, pel, x, y] = numbers;
+        let place = Place {
+            base: usize::try_from(wrap32(*base)).ok()?,
+            pitch: wrap32(*pitch),
+            width: wrap32(*width),
+            height: wrap32(*height),
+            pel: wrap32(*pel),
+        };
+        if !served(place) {
+            return None;
+        }
+        Some(Asked {
+            place,
+            x: coordinate(*x),
+            y: coordinate(*y),
+        })
+    }
+
+    #[tactic(auto, using(plane::specs::Offsets::subpel_near))]
+    fn subpel(self, bytes: &[u8]) -> i64
+        ensures { Near result }
+    {
+        PlaneView::new(bytes, self.place).subpel(self.x, self.y)
+    }
+}
+
+// Whether there are as many samples as are told, of which a plane has at most 512.
+fn told(count: i64, samples: &[i64]) -> bool
+    ensures { result ≡ true → (limited_to 512 count ≡ length samples.now) × (length samples.now ≤ 512) }
 {
-    let place = place_of(numbers);
-    if !served(place) {
+    cases::up_to(count, 512) == Some(samples.len())
+}
+
+pub fn offset_agrees(case: &Case) -> bool
+    ensures { result ≡ true → IsSized 7 2 case.now }
+{
+    let Some(numbers) = case.inputs.as_array::<7>() else {
         return false;
+    };
+    let Some(Asked { place, x, y }) = Asked::of(numbers) else {
+        return false;
+    };
+    let view = PlaneView::new(&[], place);
+    case.answered(&[view.pel1(x, y), view.subpel(x, y)])
+}
+
+// What a case asks of a block: a side that is out of range counts as 0.
+#[derive(Clone, Copy)]
+struct Block<'a> {
+    asked: Asked,
+    w: usize,
+    h: usize,
+    samples: &'a [i64],
+    ghost sides: { (w ≤ 16) × (h ≤ 16) },
+    ghost held: { length samples.now ≤ 512 },
+}
+
+impl<'a> Block<'a> {
+    fn of(inputs: &'a [i64]) -> Option<Block<'a>>
+        ensures inputs { IfSome result (λ _. length inputs.now ≡ block_inputs inputs.now) }
+        ensures answers { IfSome result (λ block. block.w * block.h ≡ block_answers inputs.now) }
+    {
+        let (numbers, rest) = inputs.split_first_chunk::<7>()?;
+        let [w, h, count, samples @ ..] = rest else {
+            return None;
+        };
+        if !told(*count, samples) {
+            return None;
+        }
+        Some(Block {
+            asked: Asked::of(numbers)?,
+            w: cases::limited(*w, 16),
+            h: cases::limited(*h, 16),
+            samples,
+        })
     }
-    let x = coordinate(numbers[5]);
-    let y = coordinate(numbers[6]);
-    let none = [0u8; 1];
-    let at_pel1 = numbers[7] == plane_view::pel1_of(&none, place, x, y);
-    let at_subpel = numbers[8] == plane_view::subpel_of(&none, place, x, y);
-    cases::sized(inputs, count, 7, 2) & (at_pel1 & at_subpel)
-}
 
-// The plane's bytes, from a number on.
-fn data(numbers: &[i64; 8200], from: usize) -> [u8; 512]
-    requires { from ≤ 10 }
-{
-    let mut out = [0u8; 512];
-    for k in 0..512 {
-        out[k] = cases::byte(numbers[from + k]);
+    // The block from subpel on, and what its first sample weighs.
+    fn read(self) -> ([u8; 256], u8) {
+        let bytes = &cases::bytes::<512>(self.samples)[..self.samples.len()];
+        let Asked { place, x, y } = self.asked;
+        let rows = Rows {
+            bytes,
+            pitch: place.pitch as usize,
+        };
+        let first = PlaneView::new(bytes, place).sample(x, y);
+        let block = plane::gather(rows, self.asked.subpel(bytes), self.w, self.h);
+        (block, plane::weight(first))
     }
-    out
-}
 
-fn wide(byte: u8) -> i64 {
-    byte as i64
-}
-
-// Whether the n numbers from a place on are the block's samples.
-fn same(block: &[u8; 256], numbers: &[i64; 8200], from: usize, n: usize) -> bool
-    requires { (from ≤ 522) × (n ≤ 256) }
-{
-    let mut all = true;
-    for k in 0..n {
-        all = all & (numbers[from + k] == wide(block[k]));
+    // How many of its samples lie outside the bytes.
+    fn absent(self) -> u32 {
+        let bytes = &cases::bytes::<512>(self.samples)[..self.samples.len()];
+        let view = PlaneView::new(bytes, self.asked.place);
+        absent_reads::absent(view, self.asked.subpel(bytes), self.w, self.h)
     }
-    all
-}
-
-fn area(w: usize, h: usize) -> usize
-    requires { (w ≤ 16) × (h ≤ 16) }
-    ensures { (result ≡ w * h) × (result ≤ 256) }
-{
-    w * h
-}
-
-// The block from subpel on.
-fn block_at(bytes: &[u8], place: Place, x: i64, y: i64, w: usize, h: usize) -> [u8; 256]
-    requires located { Located place x y }
-    requires w_bound { (w ≤ 16) × (h ≤ 16) }
-{
-    let pitch = place.pitch;
-    let at = plane_view::subpel_of(bytes, place, x, y);
-    plane::gather(bytes, at, pitch as usize, w, h)
-}
-
-// Whether the answers, which stand behind n bytes, are the block and the weight of its first sample.
-fn is_block(numbers: &[i64; 8200], place: Place, n: usize, w: usize, h: usize) -> bool
-    requires placed { Placed place }
-    requires n_bound { (n ≤ 512) × ((w ≤ 16) × (h ≤ 16)) }
-{
-    let x = coordinate(numbers[5]);
-    let y = coordinate(numbers[6]);
-    let bytes = data(numbers, 10);
-    let block = block_at(&bytes[..n], place, x, y, w, h);
-    let first = wide(plane::weight(plane_view::sample_of(&bytes[..n], place, x, y)));
-    (numbers[10 + n] == first) & same(&block, numbers, 10 + n, area(w, h))
 }
 
 // A block with no sample has no answer to compare, and differs.
-pub fn block_agrees(numbers: &[i64; 8200], inputs: usize, count: usize) -> bool
-    ensures { result ≡ true → Sized (block_inputs numbers.now) (block_answers numbers.now) inputs count }
+pub fn block_agrees(case: &Case) -> bool
+    ensures { result ≡ true → IsSized (block_inputs case.now.inputs.now) (block_answers case.now.inputs.now) case.now }
 {
-    let place = place_of(numbers);
-    if !served(place) {
+    let Some(block) = Block::of(case.inputs) else {
         return false;
-    }
-    let w = cases::limited(numbers[7], 16);
-    let h = cases::limited(numbers[8], 16);
-    let n = cases::limited(numbers[9], 512);
-    let samples = area(w, h);
-    if samples == 0 {
-        return false;
-    }
-    let told = numbers[9] == n as i64;
-    cases::sized(inputs, count, 10 + n, samples) & (told & is_block(numbers, place, n, w, h))
+    };
+    let (samples, first) = block.read();
+    case.answers.first() == Some(&i64::from(first)) && case.answered(&samples[..block.w * block.h])
 }
 
-// ---- samples, and how many are absent
-// Whether the answers, which stand behind n bytes, are what was read.
-fn is_read(numbers: &[i64; 8200], inputs: usize, count: usize, n: usize, read: Read) -> bool
-    requires { n ≤ 512 }
-    ensures { result ≡ true → Sized (8 + n) (read_answers read) inputs count }
+// What is read where a case asks.
+fn read(inputs: &[i64]) -> Option<Read>
+    ensures { IfSome result (λ _. length inputs.now ≡ sample_inputs inputs.now) }
 {
-    let Read::Inside(byte) = read else {
-        return cases::sized(inputs, count, 8 + n, 1) & (numbers[8 + n] == 0);
-    };
-    let there = numbers[8 + n] == 1;
-    cases::sized(inputs, count, 8 + n, 2) & (there & (numbers[9 + n] == wide(byte)))
+    let (numbers, rest) = inputs.split_first_chunk::<7>()?;
+    let (count, samples) = rest.split_first()?;
+    if !told(*count, samples) {
+        return None;
+    }
+    let Asked { place, x, y } = Asked::of(numbers)?;
+    let bytes = &cases::bytes::<512>(samples)[..samples.len()];
+    Some(PlaneView::new(bytes, place).sample(x, y))
 }
 
 // A line has one answer, or two.
-pub fn sample_agrees(numbers: &[i64; 8200], inputs: usize, count: usize) -> bool
-    ensures { result ≡ true → Sized (sample_inputs numbers.now) 1 inputs count ⊎ Sized (sample_inputs numbers.now) 2 inputs count }
+pub fn sample_agrees(case: &Case) -> bool
+    ensures { result ≡ true → IsSized (sample_inputs case.now.inputs.now) 1 case.now ⊎ IsSized (sample_inputs case.now.inputs.now) 2 case.now }
 {
-    let place = place_of(numbers);
-    if !served(place) {
-        return false;
+    match read(case.inputs) {
+        Some(Some(byte)) => case.answered(&[1, byte]),
+        Some(None) => case.answered(&[0u8]),
+        None => false,
     }
-    let n = cases::limited(numbers[7], 512);
-    let told = numbers[7] == n as i64;
-    let x = coordinate(numbers[5]);
-    let y = coordinate(numbers[6]);
-    let bytes = data(numbers, 8);
-    let read = plane_view::sample_of(&bytes[..n], place, x, y);
-    is_read(numbers, inputs, count, n, read) & told
 }
 
-// Whether the answer, which stands behind n bytes, is how many of the samples are absent.
-fn is_absent(numbers: &[i64; 8200], place: Place, n: usize, w: usize, h: usize) -> bool
-    requires placed { Placed place }
-    requires n_bound { (n ≤ 512) × ((w ≤ 16) × (h ≤ 16)) }
+pub fn absent_agrees(case: &Case) -> bool
+    ensures { result ≡ true → IsSized (block_inputs case.now.inputs.now) 1 case.now }
 {
-    let x = coordinate(numbers[5]);
-    let y = coordinate(numbers[6]);
-    let bytes = data(numbers, 10);
-    let at = plane_view::subpel_of(&bytes[..n], place, x, y);
-    numbers[10 + n] == absent_reads::absent(&bytes[..n], place, at, w, h) as i64
-}
-
-pub fn absent_agrees(numbers: &[i64; 8200], inputs: usize, count: usize) -> bool
-    ensures { result ≡ true → Sized (block_inputs numbers.now) 1 inputs count }
-{
-    let place = place_of(numbers);
-    if !served(place) {
+    let Some(block) = Block::of(case.inputs) else {
         return false;
-    }
-    let w = cases::limited(numbers[7], 16);
-    let h = cases::limited(numbers[8], 16);
-    let n = cases::limited(numbers[9], 512);
-    let told = numbers[9] == n as i64;
-    cases::sized(inputs, count, 10 + n, 1) & (told & is_absent(numbers, place, n, w, h))
+    };
+    case.answered(&[block.absent()])
 }

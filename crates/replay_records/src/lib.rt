@@ -3,191 +3,153 @@
 #![tactic(auto)]
 
 ghost use Rattle.std.specs.Prelude.{◌≡◌, true, ◌⊎◌};
-ghost use Rattle.cases.specs.Places.{Sized};
+ghost use Rattle.cases.specs.Places.{IsSized};
 
-use records::{
-    Offset, OffsetWords, Offsets, Packed, PackedPair, Pair, PairWords, Pairs, Record, Words,
-};
+use cases::Case;
+use records::{Offset, Pair, Record, Words};
+use whole::wrap32;
 
-// A vector's offset is a word, in which the least number is absent.
+// In a vector an offset is a word, in which the least number is absent.
 fn offset(word: i64) -> Offset {
-    if word == -2147483648 {
-        return Offset::Absent;
+    if word == i64::from(i32::MIN) {
+        None
+    } else {
+        Some(wrap32(word))
     }
-    Offset::At(whole::wrap32(word))
-}
-
-fn is_offset(word: i64, answer: Offset) -> bool {
-    let Offset::At(place) = answer else {
-        return word == -2147483648;
-    };
-    cases::is(word, place) & (word != -2147483648)
 }
 
 fn pair(first: i64, second: i64) -> Pair {
     Pair {
-        first: whole::wrap32(first),
-        second: whole::wrap32(second),
+        first: wrap32(first),
+        second: wrap32(second),
     }
 }
 
-fn is_pair(first: i64, second: i64, answer: Pair) -> bool {
-    let low = answer.first;
-    let high = answer.second;
-    cases::is(first, low) & cases::is(second, high)
-}
-
-pub fn pair_agrees(numbers: &[i64; 8200], inputs: usize, count: usize) -> bool
-    ensures { result ≡ true → Sized 2 1 inputs count ⊎ Sized 2 2 inputs count }
-{
-    let given = pair(numbers[0], numbers[1]);
-    let first = given.first;
-    let second = given.second;
-    let answer = records::pack_pair(first, second);
-    let PackedPair::Fits(word) = answer else {
-        return cases::sized(inputs, count, 2, 1) & (numbers[2] == 6);
-    };
-    cases::sized(inputs, count, 2, 2) & ((numbers[2] == 0) & cases::is(numbers[3], word))
-}
-
-pub fn unpair_agrees(numbers: &[i64; 8200], inputs: usize, count: usize) -> bool
-    ensures { result ≡ true → Sized 1 2 inputs count }
-{
-    let answer = records::unpack_pair(whole::wrap32(numbers[0]));
-    cases::sized(inputs, count, 1, 2) & is_pair(numbers[1], numbers[2], answer)
-}
-
-fn given_offsets(numbers: &[i64; 8200]) -> Offsets {
-    Offsets {
-        full: offset(numbers[0]),
-        overlay: offset(numbers[1]),
-        u: offset(numbers[2]),
-        v: offset(numbers[3]),
-        average: offset(numbers[4]),
-    }
-}
-
-fn given_pairs(numbers: &[i64; 8200]) -> Pairs {
-    Pairs {
-        pos: pair(numbers[5], numbers[6]),
-        cpos: pair(numbers[7], numbers[8]),
-        predictor: pair(numbers[9], numbers[10]),
-        window_x: pair(numbers[11], numbers[12]),
-        window_y: pair(numbers[13], numbers[14]),
-    }
-}
-
-fn given_record(numbers: &[i64; 8200]) -> Record {
-    let sad = whole::wrap32(numbers[15]);
-    let lambda = whole::wrap32(numbers[16]);
-    let flags = whole::wrap32(numbers[17]);
-    records::joined_record(
-        given_offsets(numbers),
-        given_pairs(numbers),
+// The record of its 18 numbers.
+fn record(numbers: [i64; 18]) -> Record {
+    let [
+        full,
+        overlay,
+        u,
+        v,
+        average,
+        pos_x,
+        pos_y,
+        cpos_x,
+        cpos_y,
+        x,
+        y,
+        least_x,
+        greatest_x,
+        least_y,
+        greatest_y,
         sad,
         lambda,
         flags,
-    )
-}
-
-fn are_offset_words(numbers: &[i64; 8200], words: Words) -> bool {
-    cases::is(numbers[19], words.full)
-        & cases::is(numbers[20], words.overlay)
-        & cases::is(numbers[21], words.u)
-        & cases::is(numbers[22], words.v)
-        & cases::is(numbers[23], words.average)
-}
-
-fn are_pair_words(numbers: &[i64; 8200], words: Words) -> bool {
-    cases::is(numbers[24], words.pos)
-        & cases::is(numbers[25], words.cpos)
-        & cases::is(numbers[26], words.predictor)
-        & cases::is(numbers[27], words.window_x)
-        & cases::is(numbers[28], words.window_y)
-}
-
-fn are_words(numbers: &[i64; 8200], words: Words) -> bool {
-    let rest = cases::is(numbers[29], words.sad) & cases::is(numbers[30], words.last);
-    are_offset_words(numbers, words) & are_pair_words(numbers, words) & rest
-}
-
-pub fn record_agrees(numbers: &[i64; 8200], inputs: usize, count: usize) -> bool
-    ensures { result ≡ true → Sized 18 1 inputs count ⊎ Sized 18 13 inputs count }
-{
-    let answer = records::pack_record(given_record(numbers));
-    let Packed::Fits(words) = answer else {
-        return cases::sized(inputs, count, 18, 1) & (numbers[18] == 6);
-    };
-    cases::sized(inputs, count, 18, 13) & ((numbers[18] == 0) & are_words(numbers, words))
-}
-
-fn given_offset_words(numbers: &[i64; 8200]) -> OffsetWords {
-    OffsetWords {
-        full: whole::wrap32(numbers[0]),
-        overlay: whole::wrap32(numbers[1]),
-        u: whole::wrap32(numbers[2]),
-        v: whole::wrap32(numbers[3]),
-        average: whole::wrap32(numbers[4]),
+    ] = numbers;
+    Record {
+        full: offset(full),
+        overlay: offset(overlay),
+        u: offset(u),
+        v: offset(v),
+        average: offset(average),
+        pos: pair(pos_x, pos_y),
+        cpos: pair(cpos_x, cpos_y),
+        predictor: pair(x, y),
+        window_x: pair(least_x, greatest_x),
+        window_y: pair(least_y, greatest_y),
+        sad: wrap32(sad),
+        lambda: wrap32(lambda),
+        flags: wrap32(flags),
     }
 }
 
-fn given_pair_words(numbers: &[i64; 8200]) -> PairWords {
-    PairWords {
-        pos: whole::wrap32(numbers[5]),
-        cpos: whole::wrap32(numbers[6]),
-        predictor: whole::wrap32(numbers[7]),
-        window_x: whole::wrap32(numbers[8]),
-        window_y: whole::wrap32(numbers[9]),
-    }
-}
-
-fn given_words(numbers: &[i64; 8200]) -> Words {
-    let sad = whole::wrap32(numbers[10]);
-    let last = whole::wrap32(numbers[11]);
-    records::joined_words(
-        given_offset_words(numbers),
-        given_pair_words(numbers),
+fn words(numbers: [i32; 12]) -> Words {
+    let [
+        full,
+        overlay,
+        u,
+        v,
+        average,
+        pos,
+        cpos,
+        predictor,
+        window_x,
+        window_y,
         sad,
         last,
-    )
+    ] = numbers;
+    Words {
+        full,
+        overlay,
+        u,
+        v,
+        average,
+        pos,
+        cpos,
+        predictor,
+        window_x,
+        window_y,
+        sad,
+        last,
+    }
 }
 
-fn are_offsets(numbers: &[i64; 8200], answer: Record) -> bool {
-    let full = answer.full;
-    let overlay = answer.overlay;
-    let u = answer.u;
-    let v = answer.v;
-    let average = answer.average;
-    is_offset(numbers[12], full)
-        & is_offset(numbers[13], overlay)
-        & is_offset(numbers[14], u)
-        & is_offset(numbers[15], v)
-        & is_offset(numbers[16], average)
+// Whether these are numbers of 32 bits, which an answer's have to be, since more is lost when it is read.
+fn fit(numbers: &[i64]) -> bool {
+    numbers.iter().all(|number| i32::try_from(*number).is_ok())
 }
 
-fn are_pairs(numbers: &[i64; 8200], answer: Record) -> bool {
-    let pos = answer.pos;
-    let cpos = answer.cpos;
-    let predictor = answer.predictor;
-    let window_x = answer.window_x;
-    let window_y = answer.window_y;
-    is_pair(numbers[17], numbers[18], pos)
-        & is_pair(numbers[19], numbers[20], cpos)
-        & is_pair(numbers[21], numbers[22], predictor)
-        & is_pair(numbers[23], numbers[24], window_x)
-        & is_pair(numbers[25], numbers[26], window_y)
-}
-
-fn is_record(numbers: &[i64; 8200], answer: Record) -> bool {
-    let rest = cases::is(numbers[27], answer.sad)
-        & cases::is(numbers[28], answer.lambda)
-        & cases::is(numbers[29], answer.flags);
-    are_offsets(numbers, answer) & are_pairs(numbers, answer) & rest
-}
-
-pub fn unrecord_agrees(numbers: &[i64; 8200], inputs: usize, count: usize) -> bool
-    ensures { result ≡ true → Sized 12 18 inputs count }
+pub fn pair_agrees(case: &Case) -> bool
+    ensures { result ≡ true → IsSized 2 1 case.now ⊎ IsSized 2 2 case.now }
 {
-    let answer = records::unpack_record(given_words(numbers));
-    cases::sized(inputs, count, 12, 18) & is_record(numbers, answer)
+    let Some(words) = case.words::<2>() else {
+        return false;
+    };
+    let [first, second] = words;
+    match records::pack_pair(first, second) {
+        Some(word) => case.answered(&[0, word]),
+        None => case.answered(&[6]),
+    }
+}
+
+pub fn unpair_agrees(case: &Case) -> bool
+    ensures { result ≡ true → IsSized 1 2 case.now }
+{
+    let Some(words) = case.words::<1>() else {
+        return false;
+    };
+    let [word] = words;
+    let Pair { first, second } = records::unpack_pair(word);
+    case.answered(&[first, second])
+}
+
+pub fn record_agrees(case: &Case) -> bool
+    ensures { result ≡ true → IsSized 18 1 case.now ⊎ IsSized 18 13 case.now }
+{
+    let Some(given) = case.inputs.as_array::<18>() else {
+        return false;
+    };
+    let Some(packed) = records::pack_record(record(*given)) else {
+        return case.answered(&[6]);
+    };
+    let [0, answer @ ..] = case.answers else {
+        return false;
+    };
+    let Some(answer) = answer.as_array::<12>() else {
+        return false;
+    };
+    fit(answer) && words(answer.map(wrap32)) == packed
+}
+
+pub fn unrecord_agrees(case: &Case) -> bool
+    ensures { result ≡ true → IsSized 12 18 case.now }
+{
+    let Some(given) = case.words::<12>() else {
+        return false;
+    };
+    let Some(answer) = case.answers.as_array::<18>() else {
+        return false;
+    };
+    fit(answer) && record(*answer) == records::unpack_record(words(given))
 }

@@ -3,6 +3,8 @@ use Rattle.std.specs.Prelude.{◌≡◌, refl, true, false, List, [], ◌∷◌,
 use Rattle.std.specs.Prelude.{nat_abs, length}
 use Rattle.std.proofs.Common.{sym, ap, ◌∙◌, ⊎_elim, div-add-mod', arith, lt-ltb, le-ltb, length-append, SFits}
 use Rattle.std.proofs.Math.Nat.{pow-succ'}
+use Rattle.std.specs.Fmt as std
+use Rattle.std.proofs.lemmas.Fmt.{decimal_by_steps}
 use Rattle.std.specs.Int.Signed.{lt_z}
 use Rattle.std.specs.Int.{w32}
 use Rattle.whole.specs.Signed.{lt_or_ge, range, signed}
@@ -89,3 +91,12 @@ pub decimal_length : {z : ℤ} → SFits w32 z → length (decimal z) ≤ 11
 unfolding decimal
 decimal_length {z = pos n} f = let m = digits_length 9 n (omega (arith, range f)) in omega arith
 decimal_length {z = negsuc n} f = let m = digits_length 9 (suc n) (omega (arith, range f)) in omega arith
+
+-- ---- the library prints the same
+natural_is : (n : ℕ) → n < 2 ^ 64 → digits n ≡ std.decimal n
+natural_is = decimal_by_steps (λ n text. digits n ≡ text) digits_small (λ n text h e. digits_more n h ∙ ap (λ (l : List ℕ). l ++ (digit (n % 10) ∷ [])) e)
+
+pub decimal_is : {z : ℤ} → SFits w32 z → decimal z ≡ std.signed_decimal z
+unfolding decimal
+decimal_is {z = pos n} f = natural_is n (omega (arith, range f))
+decimal_is {z = negsuc n} f = ap (λ (l : List ℕ). 45 ∷ l) (natural_is (suc n) (omega (arith, range f)))

@@ -3,7 +3,7 @@
 -- lent memory. Each speaks of the contract as the prover has it from the code's own `ensures`, not of a copy.
 -- An outcome is an answer with the parameters as they are at exit; what is shown of it is the answer and what each lent buffer holds. What a contract says of
 -- two outcomes of one input, together, gives that the same is shown of both. Assumes nothing.
-use Rattle.std.specs.Prelude.{◌≡◌, List, ℕ, take}
+use Rattle.std.specs.Prelude.{◌≡◌}
 use Rattle.std.proofs.Common.{sym, ◌∙◌}
 use seplogic.Ra.Ura.{Ura}
 use base.Logic.{SProp, ent, sep, via, fst∗, snd∗, id⊢}
@@ -13,6 +13,7 @@ use types.Logic.{Logic}
 use contract.Monad.{Fun, fact, fact_i, fact_use}
 use contract.Lifetimes.{Lfts}
 use denote.Triple.Entry.{Args, Res}
+use denote.RattleType.{RattleType}
 use denote.Triple.Clauses.{Clauses, Ended, AtExit}
 use Rattle.whole.specs.contracts.root as root
 use Rattle.records.specs.contracts.pack_pair as pack_pair
@@ -32,15 +33,14 @@ use Rattle.evaluation.specs.contracts.evaluate as evaluate
 use Rattle.zero_law.specs.contracts.evaluate_knowing as evaluate_knowing
 use Rattle.little_endian.specs.contracts.words_into as words_into
 use Rattle.little_endian.specs.contracts.put_word as put_word
-use Rattle.put_numbers.specs.contracts.put_five as put_five
+use Rattle.put_numbers.specs.contracts.put as put_numbers
 use Rattle.passes.specs.contracts.write_all as write_all
 use Rattle.finishing.specs.contracts.finish as finish
-use Rattle.report_text.specs.Putting.{Puts}
 use Rattle.report_text.specs.contracts.lay as lay
-use Rattle.report_text.specs.contracts.put as put
-use Rattle.report_text.specs.contracts.put_field as put_field
-use Rattle.report_text.specs.contracts.put_two as put_two
-use Rattle.tile_lines.specs.contracts.put_steps as put_steps
+use Rattle.report_text.specs.contracts.Text.put as put
+use Rattle.report_text.specs.contracts.Text.put_field as put_field
+use Rattle.report_text.specs.contracts.Text.put_two as put_two
+use Rattle.tile_lines.specs.contracts.steps_text as steps_text
 use Rattle.plan_file.specs.contracts.check_plan_file as check_plan_file
 use Rattle.plan_lines.specs.contracts.report_head as report_head
 use Rattle.plan_lines.specs.contracts.report_line as report_line
@@ -72,7 +72,7 @@ module _ {M : Type 1} (𝓤 : Ura M) where
   thus : {P : SProp 𝓤} {φ ψ : Type 0} → (φ → ψ) → Says P φ → Says P ψ
   thus {P} {φ} {ψ} f p = fact_use 𝓤 φ p (λ x. fact_i 𝓤 ψ P (f x))
 
-  -- ---- contracts of one equation, of two, of three; and of two with a fact φ beside them
+  -- ---- contracts of one equation, of two, of three; and of one or two with a fact φ beside them
   says_1 : {X : Type 0} (r x : X) → Says (Eq r x) (r ≡ x)
   says_1 r x = id⊢ 𝓤 (Eq r x)
 
@@ -108,21 +108,10 @@ module _ {M : Type 1} (𝓤 : Ura M) where
       thus (λ t. pair t.0.0 t.0.1.0 t.1.0 t.1.1.0)
       (both_say (both_say (says_1 r x) (both_say (says_1 u y) (id⊢ 𝓤 (fact 𝓤 φ)))) (both_say (says_1 s x) (both_say (says_1 v y) (id⊢ 𝓤 (fact 𝓤 ψ)))))
 
-  -- ---- contracts that name what stands in a line up to the answer (`Puts`), alone and with a bound φ beside it
-  fronts : {before text a b : List ℕ} {at n m : ℕ} → Puts before at text a n → Puts before at text b m → (n & take n a) ≡ (m & take m b)
-  fronts p q = pair p.next_is p.stands q.next_is q.stands
-
-  puts : {before text a b : List ℕ} {at n m : ℕ} → Says (sep 𝓤 (fact 𝓤 (Puts before at text a n)) (fact 𝓤 (Puts before at text b m)))
-      ((n & take n a) ≡ (m & take m b))
-  puts {before} {text} {a} {b} {at} {n} {m} =
-      thus (λ t. fronts t.0 t.1) (both_say (id⊢ 𝓤 (fact 𝓤 (Puts before at text a n))) (id⊢ 𝓤 (fact 𝓤 (Puts before at text b m))))
-
-  puts_beside : {before text a b : List ℕ} {at n m : ℕ} {φ ψ : Type 0} →
-      Says (sep 𝓤 (sep 𝓤 (fact 𝓤 (Puts before at text a n)) (fact 𝓤 φ)) (sep 𝓤 (fact 𝓤 (Puts before at text b m)) (fact 𝓤 ψ))) ((n & take n a) ≡ (m & take m b))
-  puts_beside {before} {text} {a} {b} {at} {n} {m} {φ} {ψ} =
-      thus (λ t. fronts t.0.0 t.1.0)
-      (both_say (both_say (id⊢ 𝓤 (fact 𝓤 (Puts before at text a n))) (id⊢ 𝓤 (fact 𝓤 φ)))
-      (both_say (id⊢ 𝓤 (fact 𝓤 (Puts before at text b m))) (id⊢ 𝓤 (fact 𝓤 ψ))))
+  one_beside : {X : Type 0} {r s x : X} {φ ψ : Type 0} →
+      Says (sep 𝓤 (sep 𝓤 (Eq r x) (fact 𝓤 φ)) (sep 𝓤 (Eq s x) (fact 𝓤 ψ))) (r ≡ s)
+  one_beside {r = r} {s = s} {x = x} {φ = φ} {ψ = ψ} =
+      thus (λ t. t.0.0 ∙ sym t.1.0) (both_say (both_say (says_1 r x) (id⊢ 𝓤 (fact 𝓤 φ))) (both_say (says_1 s x) (id⊢ 𝓤 (fact 𝓤 ψ))))
 
   module _ (𝓛 : Logic 𝓤) (mem : Memory → SProp 𝓤) (run : Routine → Fun 𝓤) where
     -- of every input and every two outcomes of it, r with e and s with f, the contract c gives that the same is shown
@@ -172,15 +161,15 @@ module _ {M : Type 1} (𝓤 : Ura M) where
     pub level_same : Same level.ended (level.clauses 𝓛 mem run) (λ κs r e. r)
     level_same κs a g r s e f = one
 
-    pub level_numbers_same : Same level_numbers.ended (level_numbers.clauses 𝓛 mem run) (λ κs r e. r & e.1.1.1.1.1.1.1.0.now)
+    pub level_numbers_same : Same level_numbers.ended (level_numbers.clauses 𝓛 mem run) (λ κs r e. r & e.1.1.1.0.now)
     level_numbers_same κs a g r s e f = two
 
     -- ---- planning
-    pub plan_same : Same plan.ended (plan.clauses 𝓛 mem run) (λ κs r e. r & (e.1.1.1.1.1.1.0.now & e.1.1.1.1.1.1.1.0.now))
+    pub plan_same : Same plan.ended (plan.clauses 𝓛 mem run) (λ κs r e. r & (e.1.1.1.1.0.now & e.1.1.1.1.1.0.now))
     plan_same κs a g r s e f = three
 
     -- ---- evaluation
-    pub evaluate_same : Same evaluate.ended (evaluate.clauses 𝓛 mem run) (λ κs r e. r & e.1.1.1.1.1.1.1.1.0.now)
+    pub evaluate_same : Same evaluate.ended (evaluate.clauses 𝓛 mem run) (λ κs r e. r & e.1.1.1.1.0.now)
     evaluate_same κs a g r s e f = two
 
     -- ---- finishing
@@ -250,21 +239,22 @@ module _ {M : Type 1} (𝓤 : Ura M) where
     pub put_word_same : Same put_word.ended (put_word.clauses 𝓛 mem run) (λ κs r e. e.0.now)
     put_word_same κs a g r s e f = one
 
-    pub put_five_same : Same put_five.ended (put_five.clauses 𝓛 mem run) (λ κs r e. e.0.now)
-    put_five_same κs a g r s e f = one
+    -- however many numbers are put
+    pub put_numbers_same : (N : RattleType) → Same (put_numbers.ended N) (put_numbers.clauses N 𝓛 mem run) (λ κs r e. e.0.now)
+    put_numbers_same N κs a g r s e f = one
 
-    pub write_all_same : Same write_all.ended (write_all.clauses 𝓛 mem run) (λ κs r e. e.1.1.1.1.1.1.1.0.now & e.1.1.1.1.1.1.1.1.0.now)
+    pub write_all_same : Same write_all.ended (write_all.clauses 𝓛 mem run) (λ κs r e. e.1.1.1.1.1.0.now & e.1.1.1.1.1.1.0.now)
     write_all_same κs a g r s e f = two
 
-    -- of a line that is scratch behind the answer, what stands up to it
-    pub put_same : Same put.ended (put.clauses 𝓛 mem run) (λ κs r e. r & take r e.0.now)
-    put_same κs a g r s e f = puts
+    -- a text, however long it may become, and with it what it holds
+    pub put_same : (N : RattleType) → Same (put.ended N) (put.clauses N 𝓛 mem run) (λ κs r e. e.0.now)
+    put_same N κs a g r s e f = one
 
-    pub put_field_same : Same put_field.ended (put_field.clauses 𝓛 mem run) (λ κs r e. r & take r e.0.now)
-    put_field_same κs a g r s e f = puts_beside
+    pub put_field_same : (N : RattleType) → Same (put_field.ended N) (put_field.clauses N 𝓛 mem run) (λ κs r e. e.0.now)
+    put_field_same N κs a g r s e f = one_beside
 
-    pub put_two_same : Same put_two.ended (put_two.clauses 𝓛 mem run) (λ κs r e. r & take r e.0.now)
-    put_two_same κs a g r s e f = puts_beside
+    pub put_two_same : (N : RattleType) → Same (put_two.ended N) (put_two.clauses N 𝓛 mem run) (λ κs r e. e.0.now)
+    put_two_same N κs a g r s e f = one_beside
 
-    pub put_steps_same : Same put_steps.ended (put_steps.clauses 𝓛 mem run) (λ κs r e. r & take r e.0.now)
-    put_steps_same κs a g r s e f = puts_beside
+    pub steps_text_same : Same steps_text.ended (steps_text.clauses 𝓛 mem run) (λ κs r e. r)
+    steps_text_same κs a g r s e f = one

@@ -1,10 +1,8 @@
 -- 01, "Planning": "Diagonal is pel x the largest whole number whose square is at most width squared + height squared." Definitions alone.
 -- That this root is the one which the Rust takes by floating point is a theorem of the crate ieee_root.
-use Rattle.std.specs.Prelude.{Bool, ◌&&◌, cond, ℕ, ◌+◌, ◌*◌, ℤ, pos, ◌*ℤ◌, nat_abs}
+use Rattle.std.specs.Prelude.{Bool, ◌&&◌, cond, ℕ, ◌+◌, ◌*◌, ℤ, pos, ◌*ℤ◌, nat_abs, None, Option, Some}
 use Rattle.whole.specs.Numbers.{root_of}
 use Rattle.limits.specs.Limits.{is_frame_side, is_pel}
-use Rattle.score.specs.declared.Answer.{Answer}
-use Rattle.score.specs.declared.Answer.TheVariants.{Is, Refused}
 
 abbrev pub squared : ℤ → ℕ
 squared side = nat_abs side * nat_abs side
@@ -15,10 +13,10 @@ diagonal_of width height pel = pel *ℤ pos (root_of (squared width + squared he
 abbrev pub frame_fits : ℤ → ℤ → ℤ → Bool
 frame_fits width height pel = is_frame_side width && is_frame_side height && is_pel pel
 
-unfoldable pub diagonal_answer : ℤ → ℤ → ℤ → Answer
-diagonal_answer width height pel = cond (frame_fits width height pel) (Is (diagonal_of width height pel)) Refused
+unfoldable pub diagonal_answer : ℤ → ℤ → ℤ → Option ℤ
+diagonal_answer width height pel = cond (frame_fits width height pel) (Some (diagonal_of width height pel)) None
 
 -- 01's numbers: 0 done, 2 "another number outside the limits"
-abbrev pub answer_number : Answer → ℕ
-answer_number (Is value) = 0
-answer_number Refused = 2
+abbrev pub answer_number : Option ℤ → ℕ
+answer_number (Some value) = 0
+answer_number None = 2

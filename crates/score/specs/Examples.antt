@@ -1,29 +1,28 @@
 -- 01, "Numbers to hold on to": its lines about the diagonal, the score and the output word, each by computation.
-use Rattle.std.specs.Prelude.{◌≡◌, refl, pos, negsuc}
+use Rattle.std.specs.Prelude.{◌≡◌, refl, pos, negsuc, Some}
 use Rattle.whole.specs.Numbers.{root_of}
-use Rattle.score.specs.declared.Answer.TheVariants.{Is}
 use Rattle.score.specs.Diagonal.{diagonal_of, diagonal_answer, answer_number}
 use Rattle.score.specs.Score.{output_word, packed_score, score_answer}
 
 -- "1920x1080, pel 2: diagonal 4404"
-pub diagonal_1920_1080 : diagonal_answer (pos 1920) (pos 1080) (pos 2) ≡ Is (pos 4404)
+pub diagonal_1920_1080 : diagonal_answer (pos 1920) (pos 1080) (pos 2) ≡ Some (pos 4404)
 unfolding diagonal_answer diagonal_of root_of
 diagonal_1920_1080 = refl
 
 -- "with it, SAD 100: vector (661,0) 100, (705,0) 118, (1000,0) 280, (2300,0) 2000"
-pub score_661 : score_answer (pos 661) (pos 0) (pos 100) (pos 4404) (pos 0) ≡ Is (pos 100)
+pub score_661 : score_answer (pos 661) (pos 0) (pos 100) (pos 4404) (pos 0) ≡ Some (pos 100)
 unfolding score_answer packed_score
 score_661 = refl
 
-pub score_705 : score_answer (pos 705) (pos 0) (pos 100) (pos 4404) (pos 0) ≡ Is (pos 118)
+pub score_705 : score_answer (pos 705) (pos 0) (pos 100) (pos 4404) (pos 0) ≡ Some (pos 118)
 unfolding score_answer packed_score
 score_705 = refl
 
-pub score_1000 : score_answer (pos 1000) (pos 0) (pos 100) (pos 4404) (pos 0) ≡ Is (pos 280)
+pub score_1000 : score_answer (pos 1000) (pos 0) (pos 100) (pos 4404) (pos 0) ≡ Some (pos 280)
 unfolding score_answer packed_score
 score_1000 = refl
 
-pub score_2300 : score_answer (pos 2300) (pos 0) (pos 100) (pos 4404) (pos 0) ≡ Is (pos 2000)
+pub score_2300 : score_answer (pos 2300) (pos 0) (pos 100) (pos 4404) (pos 0) ≡ Some (pos 2000)
 unfolding score_answer packed_score
 score_2300 = refl
 
@@ -43,7 +42,7 @@ pub side_2 : answer_number (diagonal_answer (pos 2) (pos 2) (pos 1)) ≡ 0
 unfolding diagonal_answer
 side_2 = refl
 
-pub side_16384 : diagonal_answer (pos 16384) (pos 16384) (pos 4) ≡ Is (pos 92680)
+pub side_16384 : diagonal_answer (pos 16384) (pos 16384) (pos 4) ≡ Some (pos 92680)
 unfolding diagonal_answer diagonal_of root_of
 side_16384 = refl
 

@@ -1,10 +1,8 @@
 -- The two output words of a block. 01, "Evaluating and choosing", its last paragraph. Definitions alone.
-use Rattle.std.specs.Prelude.{Bool, ◌&&◌, cond, ℕ, ◌+◌, ◌-◌, ◌*◌, ◌/◌, ltb, ℤ, pos, ◌+ℤ◌, ◌*ℤ◌, nat_abs}
+use Rattle.std.specs.Prelude.{Bool, ◌&&◌, cond, ℕ, ◌+◌, ◌-◌, ◌*◌, ◌/◌, ltb, ℤ, pos, ◌+ℤ◌, ◌*ℤ◌, nat_abs, None, Option, Some}
 use Rattle.std.specs.Int.Signed.{lt_z, quot_z}
 use Rattle.std.specs.Int.{w32}
 use Rattle.whole.specs.Numbers.{mod_z, wrapped, fits_i16}
-use Rattle.score.specs.declared.Answer.{Answer}
-use Rattle.score.specs.declared.Answer.TheVariants.{Is, Refused}
 
 -- "word 2 x index is (x << 16) + y, wrapping"
 abbrev pub output_word : ℤ → ℤ → ℤ
@@ -32,6 +30,6 @@ packed_score x y sad diagonal average = score_word (scored sad (share_of x y dia
 abbrev pub score_fits : ℤ → ℤ → ℤ → Bool
 score_fits x y diagonal = fits_i16 x && fits_i16 y && lt_z (pos 0) diagonal
 
-unfoldable pub score_answer : ℤ → ℤ → ℤ → ℤ → ℤ → Answer
+unfoldable pub score_answer : ℤ → ℤ → ℤ → ℤ → ℤ → Option ℤ
 unfolding packed_score
-score_answer x y sad diagonal average = cond (score_fits x y diagonal) (Is (packed_score x y sad diagonal average)) Refused
+score_answer x y sad diagonal average = cond (score_fits x y diagonal) (Some (packed_score x y sad diagonal average)) None

@@ -6,28 +6,23 @@ ghost use Rattle.whole.specs.Numbers.{fits_i16};
 ghost use Rattle.score.specs.Diagonal.{frame_fits, diagonal_answer};
 ghost use Rattle.score.specs.Score.{output_word, scored, score_fits, score_answer};
 
-#[derive(Clone, Copy)]
-pub enum Answer {
-    Is(i32),
-    Refused,
-}
-
 fn frame_fits(width: i32, height: i32, pel: i32) -> bool
     ensures { result ≡ frame_fits width height pel }
 {
     limits::is_frame_side(width) & limits::is_frame_side(height) & limits::is_pel(pel)
 }
 
-pub fn diagonal(width: i32, height: i32, pel: i32) -> Answer
+#[tactic(auto, unfolding(crate::specs::Diagonal::diagonal_answer, crate::specs::Diagonal::diagonal_of))]
+pub fn diagonal(width: i32, height: i32, pel: i32) -> Option<i32>
     ensures { result ≡ diagonal_answer width height pel }
 {
     if !frame_fits(width, height, pel) {
-        return Answer::Refused;
+        return None;
     }
-    let w = width as u32;
-    let h = height as u32;
+    let w = whole::size(width);
+    let h = whole::size(height);
     let r = whole::root(w * w + h * h) as i32;
-    Answer::Is(pel * r)
+    Some(pel * r)
 }
 
 // The sum and not the OR: a y below zero takes one from x.
@@ -52,14 +47,13 @@ fn scaled(sad: i32, share: u32) -> i32
     ensures { result ≡ scored sad share }
 {
     if share > 50 {
-        return whole::wrapping_mul(sad, 20);
-    }
-    if share > 15 {
+        whole::wrapping_mul(sad, 20)
+    } else if share > 15 {
         let over = (share - 15) as i32;
-        let part = whole::wrapping_mul(sad, over) / 35 * 9;
-        return whole::wrapping_add(sad, part);
+        whole::wrapping_add(sad, whole::wrapping_mul(sad, over) / 35 * 9)
+    } else {
+        sad
     }
-    sad
 }
 
 fn score_fits(x: i32, y: i32, diagonal: i32) -> bool
@@ -68,12 +62,13 @@ fn score_fits(x: i32, y: i32, diagonal: i32) -> bool
     whole::fits_i16(x) & whole::fits_i16(y) & (0 < diagonal)
 }
 
-pub fn packed_score(x: i32, y: i32, sad: i32, diagonal: i32, average: i32) -> Answer
+#[tactic(auto, unfolding(crate::specs::Score::score_answer, crate::specs::Score::packed_score))]
+pub fn packed_score(x: i32, y: i32, sad: i32, diagonal: i32, average: i32) -> Option<i32>
     ensures { result ≡ score_answer x y sad diagonal average }
 {
     if !score_fits(x, y, diagonal) {
-        return Answer::Refused;
+        return None;
     }
     let score = scaled(sad, share(x, y, diagonal as u32));
-    Answer::Is(whole::wrapping_add(average << 24, score & 16777215))
+    Some(whole::wrapping_add(average << 24, score & 16777215))
 }

@@ -102,3 +102,6 @@ module _ (nx ny : ℕ) (W : 2 ≤ nx) (H : 2 ≤ ny) (s : List ℤ) (room : 2 * 
   pub all_done : begun nx ny s (nx * ny) ≡ filled nx ny s
   unfolding begun filled
   all_done = rw (take_all (nx * ny) (walk nx ny) (omega (arith, walk_length nx ny W H)))
+
+  pub done_at : (p : ℕ) → p ≡ nx * ny → begun nx ny s p ≡ filled nx ny s
+  done_at p e = ap (begun nx ny s) e ∙ all_done

@@ -1,19 +1,17 @@
 -- What a refusal's number says of the numbers given. The sides come first in each table, and who is served stands on a grid of accepted sides. Assumes nothing.
-use Rattle.std.specs.Prelude.{◌≡◌, refl, Bool, true, ◌||◌, ℕ, zero, suc, ◌+◌, ◌*◌, ◌^◌, ◌≤◌, ◌<◌, T, ℤ, ◌*ℤ◌}
+use Rattle.std.specs.Prelude.{◌≡◌, refl, Bool, true, ◌||◌, ℕ, ◌+◌, ◌*◌, ◌≤◌, ◌<◌, ℤ, ◌*ℤ◌}
 use Rattle.std.proofs.Math.Path.{sym, ap}
-use Rattle.std.proofs.Common.{subst, ◌∙◌, to_z-of_z}
+use Rattle.std.proofs.Common.{◌∙◌}
 use Rattle.std.proofs.Math.Bool.{false}
 use native.Mathlib.Omega.{arith}
 use Rattle.std.proofs.Math.Dec.{ltb}
 use Rattle.std.proofs.Math.IntN.{pos, nat_abs}
-use Rattle.std.specs.Int.Signed.{lt_z, le_z, non_neg}
-use Rattle.std.specs.Int.{Width, w32}
-use mir.Val.{Fits, SFits, bits, to_z, of_z}
+use Rattle.std.specs.Int.Signed.{lt_z, le_z}
 use borrow.Author.Tests.{ltb-false}
 use Rattle.whole.specs.Signed.{signed, abs_is, eq_is, holds, lt_z_false, le_z_false, lt_z_surely_not, le_z_surely_not}
 use Rattle.serpentine.specs.Walk.{Sides}
 use Rattle.limits.specs.Refusals.{first}
-use Rattle.serpentine.specs.Answers.{by_sides, is_outside, answered, position_refusal, block_refusal, order_refusal}
+use Rattle.serpentine.specs.Answers.{by_sides, is_outside, position_refusal, block_refusal, order_refusal}
 
 -- ---- tests joined by `||`
 neither_first : (a b : Bool) → (a || b) ≡ false → a ≡ false
@@ -27,16 +25,7 @@ neither_second false b e = e
 neither : {a b : Bool} → a ≡ false → b ≡ false → (a || b) ≡ false
 neither p q = cc
 
--- two tests by the answers of calls
-pub either_tells : {a b A B t : Bool} → a ≡ A → b ≡ B → (a || b) ≡ t → (A || B) ≡ t
-either_tells p q r = cc
-
 -- ---- a table of two numbers, and what comes behind it
-refuse : (a b : Bool) (rest : ℕ) → 0 < first a 1 (first b 2 0) → first a 1 (first b 2 rest) ≡ first a 1 (first b 2 0)
-refuse true b rest h = refl
-refuse false true rest h = refl
-refuse false false rest h = absurd (omega arith)
-
 neither_number : (a b : Bool) (rest : ℕ) → ◌≡◌ {A = ℕ} (first a 1 (first b 2 rest)) 0 → (a ≡ false) × (b ≡ false) × (rest ≡ 0)
 neither_number true b rest h = absurd (omega arith)
 neither_number false true rest h = absurd (omega arith)
@@ -45,11 +34,6 @@ neither_number false false rest h = (refl, refl, h)
 last_number : (a : Bool) (n : ℕ) → first a (1 + n) 0 ≡ 0 → a ≡ false
 last_number true n h = absurd (omega arith)
 last_number false n h = refl
-
--- what is answered, by the number
-pub answer_refused : {X : Type 0} (n : ℕ) (done : X) (refused : ℕ → X) → 0 < n → answered n done refused ≡ refused n
-answer_refused zero done refused h = absurd (omega arith)
-answer_refused (suc n) done refused h = refl
 
 -- ---- a grid that is accepted. Its sides are the natural numbers that they are cast to.
 pub record Grid (nx ny : ℤ) : Type 0 where
@@ -63,10 +47,6 @@ module _ (nx ny : ℤ) where
 
   over : Bool
   over = lt_z (pos 2048) nx || lt_z (pos 2048) ny
-
-  refuse_first : (rest : ℕ) → 0 < by_sides nx ny 0 → by_sides nx ny rest ≡ by_sides nx ny 0
-  unfolding below over
-  refuse_first rest h = refuse below over rest h
 
   grid_of : below ≡ false → over ≡ false → Grid nx ny
   unfolding below over
@@ -99,18 +79,6 @@ module _ (nx ny : ℤ) where
       let o : over ≡ false = neither (lt_z_surely_not (pos 2048) nx (omega arith)) (lt_z_surely_not (pos 2048) ny (omega arith)) in
       rw (b, o)
 
--- ---- the sides' number as a call tells it, of what the machine reads
-module _ {nx ny : ℤ} {n : ℕ} (f : SFits w32 nx) (g : SFits w32 ny) (told : n ≡ by_sides (to_z w32 (of_z w32 nx)) (to_z w32 (of_z w32 ny)) 0) where
-  pub sides_refused : (rest : ℕ) → 0 < n → n ≡ by_sides nx ny rest
-  sides_refused rest h =
-      let number = simp to_z-of_z at told in
-      number ∙ sym (refuse_first nx ny rest (omega arith))
-
-  pub sides_accepted : n ≤ 0 → Grid nx ny
-  sides_accepted h =
-      let number = simp to_z-of_z at told in
-      (grid_served nx ny 0 (omega arith)).0
-
 -- ---- a place that is not outside
 pub record Inside (count place : ℤ) : Type 0 where
   pub less : nat_abs place < nat_abs count
@@ -131,10 +99,21 @@ not_outside count place e i =
     let l = i.less in
     neither (lt_z_surely_not place (pos 0) (omega (arith, abs_is place))) (le_z_surely_not count place (omega (arith, abs_is place, abs_is count)))
 
--- such a number is cast as it is
-pub natural_cast : {w : Width} {z : ℤ} → SFits w32 z → pos (nat_abs z) ≡ z → nat_abs z < 2 ^ bits w →
-    T (non_neg (to_z w32 (of_z w32 z))) × Fits w (nat_abs (to_z w32 (of_z w32 z)))
-natural_cast f e h = simp to_z-of_z (subst (λ (y : ℤ). T (non_neg y)) e tt, record { fits = h })
+-- ---- each number is one of the table's
+small : (a b c : Bool) → first a 1 (first b 2 (first c 4 0)) ≤ 9
+small true b c = omega arith
+small false true c = omega arith
+small false false true = omega arith
+small false false false = omega arith
+
+module _ (nx ny : ℤ) where
+  pub position_small : (bx by : ℤ) → position_refusal nx ny bx by ≤ 9
+  unfolding position_refusal
+  position_small bx by = small _ _ (is_outside nx bx || is_outside ny by)
+
+  pub block_small : (position : ℤ) → block_refusal nx ny position ≤ 9
+  unfolding block_refusal
+  block_small position = small _ _ (is_outside (nx *ℤ ny) position)
 
 -- ---- who is served
 module _ (nx ny : ℤ) where

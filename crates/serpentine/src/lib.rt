@@ -2,9 +2,13 @@
 // the whole order. Each entry takes any numbers, and refuses by 01's table.
 #![tactic(auto)]
 
-ghost use Rattle.std.specs.Prelude.{◌≡◌, ◌*◌, ◌<◌, ◌≤◌, length};
+ghost use Rattle.std.specs.Prelude.{◌≡◌, ◌+◌, ◌*◌, ◌<◌, ◌≤◌, pos, length, IfOk, IfErr, Err};
+ghost use Rattle.refusals.specs.Numbers.{outcome};
+ghost use Rattle.limits.specs.Refusals.{sides_refusal};
 ghost use Rattle.serpentine.specs.Walk.{Sides, at, block_at, position_at, filled};
-ghost use Rattle.serpentine.specs.Answers.{by_sides, is_outside, position_refusal, block_refusal, order_refusal, position_answer, block_answer, order_after};
+ghost use Rattle.serpentine.specs.Answers.{is_outside, order_refusal, position_answer, block_answer, order_after};
+
+use refusals::Refusal;
 
 // A block of the grid, by its column and its row.
 #[derive(Clone, Copy)]
@@ -13,187 +17,130 @@ pub struct Place {
     pub y: u32,
 }
 
+// A grid whose sides are accepted.
 #[derive(Clone, Copy)]
-pub enum Position {
-    At(i32),
-    Refused(u32),
+struct Grid {
+    nx: u32,
+    ny: u32,
+    ghost sides: { Sides nx ny },
 }
 
-#[derive(Clone, Copy)]
-pub enum Block {
-    At(i32, i32),
-    Refused(u32),
-}
+impl Grid {
+    fn new(nx: i32, ny: i32) -> Result<Grid, Refusal>
+        ensures same { IfOk result (λ grid. (pos grid.nx ≡ nx) × (pos grid.ny ≡ ny)) }
+        ensures refused { IfErr result (λ refusal. Err refusal ≡ outcome (sides_refusal nx ny)) }
+    {
+        limits::check_sides(nx, ny)?;
+        Ok(Grid {
+            nx: nx as u32,
+            ny: ny as u32,
+        })
+    }
 
-fn position_of(nx: u32, ny: u32, bx: u32, by: u32) -> u32
-    requires sides { Sides nx ny }
-    requires bx_lt_nx { (bx < nx) × (by < ny) }
-    ensures { result ≡ position_at nx ny (at bx by) }
-{
-    let interior = (ny - 2) * (nx - 2);
-    if by == 0 {
-        return interior + 2 * bx;
-    }
-    if by == ny - 1 {
-        return interior + 2 * bx + 1;
-    }
-    if bx == 0 {
-        return interior + 2 * nx + 2 * (by - 1);
-    }
-    if bx == nx - 1 {
-        return interior + 2 * nx + 2 * (by - 1) + 1;
-    }
-    let row = (by - 1) * (nx - 2);
-    if by % 2 == 0 {
-        return row + (bx - 1);
-    }
-    row + (nx - 2 - bx)
-}
-
-fn block_of(nx: u32, ny: u32, position: u32) -> Place
-    requires sides { Sides nx ny }
-    requires position_bound { position < nx * ny }
-    ensures { result ≡ block_at nx ny position }
-{
-    let interior = (ny - 2) * (nx - 2);
-    if position < interior {
-        let by = 1 + position / (nx - 2);
-        let i = position % (nx - 2);
+    #[tactic(auto, using(crate::specs::Walked::position_by_rule), unfolding(crate::specs::Rule::rule_position))]
+    fn position_of(self, bx: u32, by: u32) -> u32
+        requires { (bx < self.nx) × (by < self.ny) }
+        ensures { result ≡ position_at self.nx self.ny (at bx by) }
+    {
+        let Grid { nx, ny } = self;
+        let interior = (ny - 2) * (nx - 2);
+        if by == 0 {
+            return interior + 2 * bx;
+        }
+        if by == ny - 1 {
+            return interior + 2 * bx + 1;
+        }
+        if bx == 0 {
+            return interior + 2 * nx + 2 * (by - 1);
+        }
+        if bx == nx - 1 {
+            return interior + 2 * nx + 2 * (by - 1) + 1;
+        }
+        let row = (by - 1) * (nx - 2);
         if by % 2 == 0 {
-            return Place { x: 1 + i, y: by };
+            return row + (bx - 1);
         }
-        return Place {
-            x: nx - 2 - i,
-            y: by,
-        };
+        row + (nx - 2 - bx)
     }
-    if position < interior + 2 * nx {
-        let t = position - interior;
-        if t % 2 == 0 {
-            return Place { x: t / 2, y: 0 };
+
+    #[tactic(auto, using(crate::specs::Walked::block_by_rule), unfolding(crate::specs::Rule::rule_block))]
+    fn block_at(self, position: u32) -> Place
+        requires { position < self.nx * self.ny }
+        ensures { result ≡ block_at self.nx self.ny position }
+    {
+        let Grid { nx, ny } = self;
+        let interior = (ny - 2) * (nx - 2);
+        if position < interior {
+            let y = 1 + position / (nx - 2);
+            let i = position % (nx - 2);
+            let x = if y % 2 == 0 { 1 + i } else { nx - 2 - i };
+            return Place { x, y };
         }
-        return Place {
-            x: t / 2,
-            y: ny - 1,
-        };
+        if position < interior + 2 * nx {
+            let t = position - interior;
+            let y = if t % 2 == 0 { 0 } else { ny - 1 };
+            return Place { x: t / 2, y };
+        }
+        let u = position - interior - 2 * nx;
+        let x = if u % 2 == 0 { 0 } else { nx - 1 };
+        Place { x, y: 1 + u / 2 }
     }
-    let u = position - interior - 2 * nx;
-    if u % 2 == 0 {
-        return Place { x: 0, y: 1 + u / 2 };
-    }
-    Place {
-        x: nx - 1,
-        y: 1 + u / 2,
+
+    // x and y of each block in turn. What lies behind them in the buffer stays.
+    #[tactic(auto, using(crate::specs::Walked::block_inside, crate::specs::Filling::none_yet, crate::specs::Filling::one_more, crate::specs::Filling::done_at))]
+    fn fill(self, order: &mut [i32])
+        requires { 2 * (self.nx * self.ny) ≤ length order.old }
+        ensures { order.new ≡ filled self.nx self.ny order.old }
+    {
+        // Stays by number: a block is asked for by its place in the order. After a loop over pairs that are lent no proof knows what they hold.
+        for position in 0..self.nx * self.ny {
+            let block = self.block_at(position);
+            let i = 2 * position as usize;
+            order[i] = block.x as i32;
+            order[i + 1] = block.y as i32;
+        }
     }
 }
 
-// x and y of each block in turn. What lies behind them in the buffer stays.
-fn fill(nx: u32, ny: u32, order: &mut [i32])
-    requires sides { Sides nx ny }
-    requires ny_in_bounds { 2 * (nx * ny) ≤ length order.old }
-    ensures { order.new ≡ filled nx ny order.old }
-{
-    let count = nx * ny;
-    let mut position: u32 = 0;
-    let mut i: usize = 0;
-    while position < count {
-        let block = block_of(nx, ny, position);
-        let x = block.x as i32;
-        let y = block.y as i32;
-        order[i] = x;
-        order[i + 1] = y;
-        i += 2;
-        position += 1;
-    }
-}
-
-// The number that the sides alone are refused with, or 0.
-fn sides_refusal(nx: i32, ny: i32) -> u32
-    ensures { result ≡ by_sides nx ny 0 }
-{
-    if (nx < 2) | (ny < 2) {
-        return 1;
-    }
-    if (2048 < nx) | (2048 < ny) {
-        return 2;
-    }
-    0
-}
-
-fn outside(count: i32, place: i32) -> bool
+fn is_outside(count: i32, place: i32) -> bool
     ensures { result ≡ is_outside count place }
 {
-    (place < 0) | (count <= place)
+    !(0..count).contains(&place)
 }
 
-fn position_refusal(nx: i32, ny: i32, bx: i32, by: i32) -> u32
-    ensures { result ≡ position_refusal nx ny bx by }
-{
-    let sides = sides_refusal(nx, ny);
-    if 0 < sides {
-        return sides;
-    }
-    if outside(nx, bx) | outside(ny, by) {
-        return 4;
-    }
-    0
-}
-
-fn block_refusal(nx: i32, ny: i32, position: i32) -> u32
-    ensures { result ≡ block_refusal nx ny position }
-{
-    let sides = sides_refusal(nx, ny);
-    if 0 < sides {
-        return sides;
-    }
-    if outside(nx * ny, position) {
-        return 4;
-    }
-    0
-}
-
-fn order_refusal(nx: i32, ny: i32, numbers: usize) -> u32
-    ensures { result ≡ order_refusal nx ny numbers }
-{
-    let sides = sides_refusal(nx, ny);
-    if 0 < sides {
-        return sides;
-    }
-    if numbers < 2 * ((nx as usize) * (ny as usize)) {
-        return 5;
-    }
-    0
-}
-
-pub fn serpentine_position(nx: i32, ny: i32, bx: i32, by: i32) -> Position
+#[tactic(auto, using(crate::specs::Walked::position_below, crate::specs::Sizes::blocks_most), unfolding(crate::specs::Answers::position_answer, crate::specs::Answers::position_refusal))]
+pub fn serpentine_position(nx: i32, ny: i32, bx: i32, by: i32) -> Result<i32, Refusal>
     ensures { result ≡ position_answer nx ny bx by }
 {
-    let refused = position_refusal(nx, ny, bx, by);
-    if 0 < refused {
-        return Position::Refused(refused);
+    let grid = Grid::new(nx, ny)?;
+    if is_outside(nx, bx) || is_outside(ny, by) {
+        return Err(Refusal::OutsideGrid);
     }
-    Position::At(position_of(nx as u32, ny as u32, bx as u32, by as u32) as i32)
+    Ok(grid.position_of(bx as u32, by as u32) as i32)
 }
 
-pub fn serpentine_block(nx: i32, ny: i32, position: i32) -> Block
+// A block's column and row.
+#[tactic(auto, using(crate::specs::Walked::block_inside), unfolding(crate::specs::Answers::block_answer, crate::specs::Answers::block_refusal))]
+pub fn serpentine_block(nx: i32, ny: i32, position: i32) -> Result<(i32, i32), Refusal>
     ensures { result ≡ block_answer nx ny position }
 {
-    let refused = block_refusal(nx, ny, position);
-    if 0 < refused {
-        return Block::Refused(refused);
+    let grid = Grid::new(nx, ny)?;
+    if is_outside(nx * ny, position) {
+        return Err(Refusal::OutsideGrid);
     }
-    let block = block_of(nx as u32, ny as u32, position as u32);
-    Block::At(block.x as i32, block.y as i32)
+    let block = grid.block_at(position as u32);
+    Ok((block.x as i32, block.y as i32))
 }
 
-pub fn serpentine_order(nx: i32, ny: i32, order: &mut [i32]) -> u32
-    ensures answer { result ≡ order_refusal nx ny (length order.old) }
+#[tactic(auto, unfolding(crate::specs::Answers::order_refusal, crate::specs::Answers::order_after))]
+pub fn serpentine_order(nx: i32, ny: i32, order: &mut [i32]) -> Result<(), Refusal>
+    ensures answer { result ≡ outcome (order_refusal nx ny (length order.old)) }
     ensures buffer { order.new ≡ order_after nx ny order.old }
 {
-    let refused = order_refusal(nx, ny, order.len());
-    if 0 < refused {
-        return refused;
+    let grid = Grid::new(nx, ny)?;
+    if order.len() < 2 * limits::blocks_of(nx, ny) {
+        return Err(Refusal::OutputLength);
     }
-    fill(nx as u32, ny as u32, order);
-    0
+    grid.fill(order);
+    Ok(())
 }

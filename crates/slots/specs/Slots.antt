@@ -1,23 +1,22 @@
 -- 01, "Planning": "The two source slots are one small record .. They start absent, slot 0 active." Definitions alone.
-use Rattle.std.specs.Prelude.{Bool, true, false, ℤ}
-use Rattle.records.specs.declared.Offset.TheVariants.{At, Absent}
+use Rattle.std.specs.Prelude.{Bool, true, false, ℤ, None, Some}
 use Rattle.slots.specs.declared.Source.{Source}
 use Rattle.slots.specs.declared.Slots.{Slots}
 
 abbrev pub no_source : Source
-no_source = record { full = Absent; half = Absent; u = Absent; v = Absent }
+no_source = record { full = None; half = None; u = None; v = None }
 
 abbrev pub at_start : Slots
 at_start = record { zero = no_source; one = no_source; one_active = false }
 
 -- "a negative block sets `half` only, another sets `full` and makes `half` absent"
 abbrev pub luma_written : Bool → ℤ → Source → Source
-luma_written true offset s = record { full = s.full; half = At offset; u = s.u; v = s.v }
-luma_written false offset s = record { full = At offset; half = Absent; u = s.u; v = s.v }
+luma_written true offset s = record { full = s.full; half = Some offset; u = s.u; v = s.v }
+luma_written false offset s = record { full = Some offset; half = None; u = s.u; v = s.v }
 
 -- "A bad plain block also sets u and v."
 abbrev pub chroma_written : ℤ → ℤ → Source → Source
-chroma_written u v s = record { full = s.full; half = s.half; u = At u; v = At v }
+chroma_written u v s = record { full = s.full; half = s.half; u = Some u; v = Some v }
 
 -- the active slot, and the two slots with another source in it
 abbrev by_active : Bool → Source → Source → Source

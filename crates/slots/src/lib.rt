@@ -3,11 +3,11 @@
 #![tactic(auto)]
 
 ghost use Rattle.std.specs.Prelude.{◌≡◌};
-ghost use Rattle.slots.specs.Slots.{no_source, at_start, luma_written, chroma_written, active_of, with_active, luma_in_active, chroma_in_active, inside_of, moved_of};
+ghost use Rattle.slots.specs.Slots.{at_start, luma_written, chroma_written, active_of, with_active, luma_in_active, chroma_in_active, inside_of, moved_of};
 
 use records::Offset;
 
-#[derive(Clone, Copy)]
+#[derive(Clone, Copy, Default)]
 pub struct Source {
     pub full: Offset,
     pub half: Offset,
@@ -15,33 +15,19 @@ pub struct Source {
     pub v: Offset,
 }
 
-#[derive(Clone, Copy)]
+// Stays a bool: which of the two is active has no value beside it, and the definitions of specs/ (`active_of`, `with_active`) read it as it is.
+#[derive(Clone, Copy, Default)]
 pub struct Slots {
     pub zero: Source,
     pub one: Source,
     pub one_active: bool,
 }
 
-fn no_source() -> Source
-    ensures { result ≡ no_source }
-{
-    Source {
-        full: Offset::Absent,
-        half: Offset::Absent,
-        u: Offset::Absent,
-        v: Offset::Absent,
-    }
-}
-
+// Both sources are absent, and slot 0 is active.
 pub fn at_start() -> Slots
     ensures { result ≡ at_start }
 {
-    let none = no_source();
-    Slots {
-        zero: none,
-        one: none,
-        one_active: false,
-    }
+    Slots::default()
 }
 
 // ---- which slot
@@ -49,28 +35,25 @@ pub fn active(slots: Slots) -> Source
     ensures { result ≡ active_of slots }
 {
     if slots.one_active {
-        return slots.one;
+        slots.one
+    } else {
+        slots.zero
     }
-    slots.zero
 }
 
 fn with_active(slots: Slots, source: Source) -> Slots
     ensures { result ≡ with_active source slots }
 {
-    let one_active = slots.one_active;
-    if one_active {
-        let zero = slots.zero;
-        return Slots {
-            zero: zero,
+    if slots.one_active {
+        Slots {
             one: source,
-            one_active: one_active,
-        };
-    }
-    let one = slots.one;
-    Slots {
-        zero: source,
-        one: one,
-        one_active: one_active,
+            ..slots
+        }
+    } else {
+        Slots {
+            zero: source,
+            ..slots
+        }
     }
 }
 
@@ -78,13 +61,9 @@ fn with_active(slots: Slots, source: Source) -> Slots
 pub fn inside(slots: Slots) -> Slots
     ensures { result ≡ inside_of slots }
 {
-    let zero = slots.zero;
-    let one = slots.one;
-    let one_active = false;
     Slots {
-        zero: zero,
-        one: one,
-        one_active: one_active,
+        one_active: false,
+        ..slots
     }
 }
 
@@ -92,12 +71,9 @@ pub fn inside(slots: Slots) -> Slots
 pub fn moved(slots: Slots) -> Slots
     ensures { result ≡ moved_of slots }
 {
-    let left = slots.zero;
-    let one = slots.one;
     Slots {
-        zero: left,
-        one: one,
         one_active: true,
+        ..slots
     }
 }
 
@@ -107,36 +83,27 @@ pub fn moved(slots: Slots) -> Slots
 fn luma_written(source: Source, negative: bool, offset: i32) -> Source
     ensures { result ≡ luma_written negative offset source }
 {
-    let full = source.full;
-    let u = source.u;
-    let v = source.v;
     if negative {
-        return Source {
-            full: full,
-            half: Offset::At(offset),
-            u: u,
-            v: v,
-        };
-    }
-    let half = Offset::Absent;
-    Source {
-        full: Offset::At(offset),
-        half: half,
-        u: u,
-        v: v,
+        Source {
+            half: Some(offset),
+            ..source
+        }
+    } else {
+        Source {
+            full: Some(offset),
+            half: None,
+            ..source
+        }
     }
 }
 
 fn chroma_written(source: Source, u: i32, v: i32) -> Source
     ensures { result ≡ chroma_written u v source }
 {
-    let full = source.full;
-    let half = source.half;
     Source {
-        full: full,
-        half: half,
-        u: Offset::At(u),
-        v: Offset::At(v),
+        u: Some(u),
+        v: Some(v),
+        ..source
     }
 }
 
@@ -144,32 +111,27 @@ fn chroma_written(source: Source, u: i32, v: i32) -> Source
 fn luma_in_active(slots: Slots, negative: bool, offset: i32) -> Slots
     ensures { result ≡ luma_in_active negative offset slots }
 {
-    let before = active(slots);
-    let written = luma_written(before, negative, offset);
-    with_active(slots, written)
+    with_active(slots, luma_written(active(slots), negative, offset))
 }
 
 fn chroma_in_active(slots: Slots, u: i32, v: i32) -> Slots
     ensures { result ≡ chroma_in_active u v slots }
 {
-    let before = active(slots);
-    let written = chroma_written(before, u, v);
-    with_active(slots, written)
+    with_active(slots, chroma_written(active(slots), u, v))
 }
 
 // ---- the writes: the record of both slots is changed where it stands
+// Stays by `&mut` over cores from a value to a value: so the paper has it (docs/WALKS.md).
 fn write_luma(slots: &mut Slots, negative: bool, offset: i32)
     ensures { slots.new ≡ luma_in_active negative offset slots.old }
 {
-    let before = *slots;
-    *slots = luma_in_active(before, negative, offset);
+    *slots = luma_in_active(*slots, negative, offset);
 }
 
 fn write_chroma(slots: &mut Slots, u: i32, v: i32)
     ensures { slots.new ≡ chroma_in_active u v slots.old }
 {
-    let before = *slots;
-    *slots = chroma_in_active(before, u, v);
+    *slots = chroma_in_active(*slots, u, v);
 }
 
 // ---- the same from a value to a value: a record of their own is lent to the write. Who calls these

@@ -12,7 +12,8 @@ ghost use Rattle.tables.specs.Tables.{vector_offset, candidate_of, table_of, slo
 ghost use Rattle.tables.specs.Bounds.{Reached, Nearby, Most};
 
 use choosing::Choice;
-use plane::Place;
+use plane::{Packed, Place};
+use plane_view::PlaneView;
 
 // Where a plane's candidates stand: its place, the position of the zero vector, and the shift of a
 // vector's components.
@@ -24,51 +25,48 @@ pub struct Reference {
     pub shift: i32,
 }
 
-pub fn vector_offset(samples: &[u8], reference: Reference, vx: i32, vy: i32) -> i64
-    requires reached { Reached reference }
-    requires within { Within 32768 65536 vx × Within 32768 65536 vy }
-    ensures value { result ≡ vector_offset reference vx vy }
-    ensures near { Near result }
-{
-    let place = reference.place;
-    let px = reference.x;
-    let py = reference.y;
-    let shift = reference.shift;
-    let x = px as i64 + limits::shifted(vx, shift) as i64;
-    let y = py as i64 + limits::shifted(vy, shift) as i64;
-    plane_view::subpel_of(samples, place, x, y)
-}
-
-// The offset of the window's candidate in column i of row j.
-fn window_offset(samples: &[u8], reference: Reference, choice: Choice, j: usize, i: usize) -> i64
-    requires reached { Reached reference }
-    requires served { Served choice × ((j < 7) × (i < 7)) }
-    ensures value { result ≡ candidate_of choice (vector_offset reference) j i }
-    ensures near { Near result }
-{
-    let vx = choosing::x_at(choice, i);
-    let vy = choosing::y_at(choice, j);
-    vector_offset(samples, reference, vx, vy)
-}
-
-// The offsets of a block's slots, worked out by the view of one plane.
-pub fn offsets(samples: &[u8], reference: Reference, choice: Choice) -> [i64; 50]
-    requires { Reached reference × Served choice }
-    ensures value { result ≡ table_of (pos 0) choice (vector_offset reference) }
-    ensures nearby { Nearby result }
-{
-    let columns = choosing::columns_of(choice);
-    let rows = choosing::rows_of(choice);
-    let x = choice.x;
-    let y = choice.y;
-    let mut out = [0i64; 50];
-    out[0] = vector_offset(samples, reference, x, y);
-    for j in 0..rows {
-        for i in 0..columns {
-            out[1 + j * columns + i] = window_offset(samples, reference, choice, j, i);
-        }
+impl Reference {
+    pub fn vector_offset(self, samples: &[u8], vx: i32, vy: i32) -> i64
+        requires reached { Reached self }
+        requires within { Within 32768 65536 vx × Within 32768 65536 vy }
+        ensures value { result ≡ vector_offset self vx vy }
+        ensures near { Near result }
+    {
+        let x = self.x as i64 + limits::shifted(vx, self.shift) as i64;
+        let y = self.y as i64 + limits::shifted(vy, self.shift) as i64;
+        PlaneView::new(samples, self.place).subpel(x, y)
     }
-    out
+
+    // The offset of the window's candidate in column i of row j.
+    fn window_offset(self, samples: &[u8], choice: Choice, j: usize, i: usize) -> i64
+        requires reached { Reached self }
+        requires served { Served choice × ((j < 7) × (i < 7)) }
+        ensures value { result ≡ candidate_of choice (vector_offset self) j i }
+        ensures near { Near result }
+    {
+        let vx = choice.x_at(i);
+        let vy = choice.y_at(j);
+        self.vector_offset(samples, vx, vy)
+    }
+
+    // The offsets of a block's slots, worked out by the view of one plane.
+    pub fn offsets(self, samples: &[u8], choice: Choice) -> [i64; 50]
+        requires { Reached self × Served choice }
+        ensures value { result ≡ table_of (pos 0) choice (vector_offset self) }
+        ensures nearby { Nearby result }
+    {
+        let columns = choice.column_count();
+        let rows = choice.row_count();
+        let mut out = [0i64; 50];
+        out[0] = self.vector_offset(samples, choice.x, choice.y);
+        // Stays by index: j and i are a candidate's row and column, and say which slot is its own.
+        for j in 0..rows {
+            for i in 0..columns {
+                out[1 + j * columns + i] = self.window_offset(samples, choice, j, i);
+            }
+        }
+        out
+    }
 }
 
 // How many slots of a table a block uses.
@@ -76,30 +74,26 @@ fn slots_used(choice: Choice) -> usize
     requires { Served choice }
     ensures { result ≡ slots_used choice }
 {
-    let columns = choosing::columns_of(choice);
-    1 + choosing::rows_of(choice) * columns
+    1 + choice.row_count() * choice.column_count()
 }
 
 // What each slot costs in a plane, from its offset on.
 pub fn costs(
     measure: bool,
-    w: usize,
-    h: usize,
-    block: &[u8],
-    samples: &[u8],
-    place: Place,
+    block: Packed,
+    view: PlaneView,
     offsets: &[i64; 50],
     choice: Choice,
 ) -> [u32; 50]
-    requires packed_block { PackedBlock w h block.now × (Placed place × Nearby offsets.now) }
+    requires packed_block { PackedBlock block.w block.h block.samples.now × (Placed view.place × Nearby offsets.now) }
     requires served { Served choice }
-    ensures { result ≡ costs_upto (place_cost measure w h (block_of block.now w) samples.now place) offsets.now (slots_used choice) }
+    ensures { result ≡ costs_upto (place_cost measure block.entry.w block.entry.h (block_of block.entry.samples.now block.entry.w) view.entry.bytes.now view.entry.place) offsets.now (slots_used choice) }
 {
     let used = slots_used(choice);
     let mut out = [0u32; 50];
+    // Stays by index: n is the slot, the same in both tables, and those behind the last one used keep 0.
     for n in 0..used {
-        let at = offsets[n];
-        out[n] = plane_view::cost_of(samples, place, measure, w, h, block, at);
+        out[n] = view.cost(measure, block, offsets[n]);
     }
     out
 }
@@ -110,6 +104,7 @@ pub fn join(u: &[u32; 50], v: &[u32; 50], scale: u32) -> [u32; 50]
     ensures { result ≡ joined scale u.now v.now }
 {
     let mut out = [0u32; 50];
+    // Stays by index: n is the slot, the same in the three tables.
     for n in 0..50 {
         out[n] = (u[n] + v[n]) * scale;
     }

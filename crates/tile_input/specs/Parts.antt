@@ -1,8 +1,8 @@
 -- What the parts of the code answer: a word as far as it is read, byte by byte, and the number at a place behind it. That this is what Input says
 -- is in Scanned.
-use Rattle.std.specs.Prelude.{Bool, true, false, cond, ◌&&◌, List, [], ◌∷◌, ℕ, ◌+◌, ◌-◌, ◌*◌, eqb, ltb}
-use Rattle.tile_input.specs.declared.Number.{Number}
-use Rattle.tile_input.specs.declared.Number.TheVariants as number
+use Rattle.std.specs.Prelude.{Bool, true, false, cond, ◌&&◌, List, [], ◌∷◌, ℕ, ◌+◌, ◌-◌, ◌*◌, eqb, ltb, ℤ, Result, Ok, Err}
+use Rattle.tile_input.specs.declared.NoNumber.{NoNumber}
+use Rattle.tile_input.specs.declared.NoNumber.TheVariants as no
 use Rattle.tile_input.specs.declared.Word.{Word}
 use Rattle.tile_input.specs.declared.Word.TheVariants as word
 use Rattle.tile_input.specs.Input.{is_blank, is_digit, signed_by}
@@ -27,15 +27,15 @@ is_begun word.Wrong = true
 abbrev pub after : Word → ℕ → Word
 after w c = cond (is_blank c) word.Unbegun (grown w c)
 
-abbrev pub told : Word → Number
-told word.Unbegun = number.Missing
-told word.Minus = number.Wrong
-told (word.Digits negative size) = number.Is (signed_by negative size)
-told word.Wrong = number.Wrong
+abbrev pub told : Word → Result ℤ NoNumber
+told word.Unbegun = Err no.Missing
+told word.Minus = Err no.Wrong
+told (word.Digits negative size) = Ok (signed_by negative size)
+told word.Wrong = Err no.Wrong
 
 -- the number that stands so many words behind a word that is begun, in what is left of the text
-abbrev pub number_from : ℕ → Word → List ℕ → Number
-number_from left w [] = cond (eqb left 0) (told w) number.Missing
+abbrev pub number_from : ℕ → Word → List ℕ → Result ℤ NoNumber
+number_from left w [] = cond (eqb left 0) (told w) (Err no.Missing)
 number_from left w (c ∷ text) =
     cond (is_blank c && is_begun w)
     (cond (eqb left 0) (told w) (number_from (left - 1) word.Unbegun text))

@@ -1,12 +1,12 @@
 -- What is written in decimal is read back as it was, and words with blanks behind them are read one after the other. Assumes nothing.
-use Rattle.std.specs.Prelude.{◌≡◌, refl, Bool, true, false, cond, not, ◌&&◌, List, [], ◌∷◌, ◌++◌, ℕ, zero, suc, ◌/◌, ◌%◌, ◌≤◌, ◌<◌, leb, ℤ, pos, negsuc, length}
+use Rattle.std.specs.Prelude.{◌≡◌, refl, Bool, true, false, cond, not, ◌&&◌, List, [], ◌∷◌, ◌++◌, ℕ, zero, suc, ◌/◌, ◌%◌, ◌≤◌, ◌<◌, leb, length}
+use Rattle.std.specs.Prelude.{ℤ, pos, negsuc, Ok}
 use Rattle.std.proofs.Common.{◌∙◌, append_assoc, append-nil, ⊎_elim, arith, leb-true, le-leb, ne_eqb, lt-ltb}
 use Rattle.whole.specs.Signed.{lt_or_ge}
 use Rattle.whole.specs.Truth.{left_of, right_of}
 use Rattle.whole.specs.Interval.{Within}
 use Rattle.report_text.specs.Text.{digit, digits, decimal}
 use Rattle.report_text.specs.Digits.{read_on, tenth, digits_small, digits_more, digits_read}
-use Rattle.tile_input.specs.declared.Number.TheVariants as number
 use Rattle.tile_input.specs.Given.{unlike}
 use Rattle.tile_input.specs.Input.{is_blank, is_digit, all_digits, signed_by, numeral, number_of, ended, words_from}
 
@@ -45,7 +45,7 @@ numeral_by (suc k) n h =
 digits_numeral : (n : ℕ) → is_numeral (digits n) ≡ true
 digits_numeral n = numeral_by n n (omega arith)
 
-numeral_told : (negative : Bool) (w : List ℕ) (n : ℕ) → is_numeral w ≡ true → read_on 0 w ≡ n → n < 256 → numeral negative w ≡ number.Is (signed_by negative n)
+numeral_told : (negative : Bool) (w : List ℕ) (n : ℕ) → is_numeral w ≡ true → read_on 0 w ≡ n → n < 256 → numeral negative w ≡ Ok (signed_by negative n)
 numeral_told negative [] n e f h = unlike (cc)
 numeral_told negative (c ∷ w) n e f h = rw (e, f, lt-ltb n 256 h)
 
@@ -56,7 +56,7 @@ unsigned_told (c ∷ w) e =
     let least = leb-true 48 c (left_of (leb 48 c) (leb c 57) (left_of (is_digit c) (all_digits w) e)) in
     rw (ne_eqb c 45 (λ f. omega arith))
 
-pub decimal_read : (z : ℤ) → Within 255 255 z → number_of (decimal z) ≡ number.Is z
+pub decimal_read : (z : ℤ) → Within 255 255 z → number_of (decimal z) ≡ Ok z
 unfolding decimal
 decimal_read (pos n) h =
     let e = digits_numeral n in

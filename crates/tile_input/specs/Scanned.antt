@@ -1,9 +1,10 @@
 -- The number at a place, as the code finds it byte by byte, is the one that Input speaks of. Assumes nothing.
 use Rattle.std.specs.Prelude.{◌≡◌, refl, Bool, true, false, cond, ◌&&◌, List, [], ◌∷◌, ◌++◌, ℕ, zero, suc, ◌+◌, ◌-◌, ◌*◌, ◌≤◌, ◌<◌, eqb, ltb, get_or}
+use Rattle.std.specs.Prelude.{ℤ, Result, Err}
 use Rattle.std.proofs.Common.{sym, ◌∙◌, arith, lt-ltb, le-ltb, ltb-true, ltb-false, ne_eqb}
 use Rattle.report_text.specs.Digits.{read_on}
-use Rattle.tile_input.specs.declared.Number.{Number}
-use Rattle.tile_input.specs.declared.Number.TheVariants as number
+use Rattle.tile_input.specs.declared.NoNumber.{NoNumber}
+use Rattle.tile_input.specs.declared.NoNumber.TheVariants as no
 use Rattle.tile_input.specs.declared.Word.{Word}
 use Rattle.tile_input.specs.declared.Word.TheVariants as word
 use Rattle.tile_input.specs.Input.{is_blank, is_digit, all_digits, limited, numeral, number_of, ended, words_from, number_at}
@@ -22,7 +23,7 @@ grown_last s [] c = refl
 grown_last s (d ∷ w) c = grown_last (grown s d) w c
 
 -- ---- what is told of it
-wrong_stays : (w : List ℕ) → told (grown_by word.Wrong w) ≡ number.Wrong
+wrong_stays : (w : List ℕ) → told (grown_by word.Wrong w) ≡ Err no.Wrong
 wrong_stays [] = refl
 wrong_stays (c ∷ w) = wrong_stays w
 
@@ -36,14 +37,15 @@ read_grows v [] = omega arith
 read_grows v (c ∷ w) = omega (arith, read_grows (v * 10 + (c - 48)) w)
 
 -- what digits say behind those that make v
-abbrev said : Bool → ℕ → List ℕ → Number
-said negative v w = cond (all_digits w) (limited negative (read_on v w)) number.Wrong
+abbrev said : Bool → ℕ → List ℕ → Result ℤ NoNumber
+said negative v w = cond (all_digits w) (limited negative (read_on v w)) (Err no.Wrong)
 
-past : (negative : Bool) (v : ℕ) (w : List ℕ) → 256 ≤ v → said negative v w ≡ number.Wrong
-past negative v w h = rw (le-ltb (read_on v w) 256 (omega (arith, read_grows v w))) (cond_same (all_digits w) number.Wrong)
+past : (negative : Bool) (v : ℕ) (w : List ℕ) → 256 ≤ v → said negative v w ≡ Err no.Wrong
+past negative v w h = rw (le-ltb (read_on v w) 256 (omega (arith, read_grows v w))) (cond_same (all_digits w) (Err no.Wrong))
 
 one_told : (negative : Bool) (v : ℕ) (w : List ℕ) (t u : Bool) → ltb v 256 ≡ u → (v < 256 → told (grown_by (word.Digits negative v) w) ≡ said negative v w) →
-    told (grown_by (cond t (cond u (word.Digits negative v) word.Wrong) word.Wrong) w) ≡ cond (t && all_digits w) (limited negative (read_on v w)) number.Wrong
+    told (grown_by (cond t (cond u (word.Digits negative v) word.Wrong) word.Wrong) w)
+    ≡ cond (t && all_digits w) (limited negative (read_on v w)) (Err no.Wrong)
 one_told negative v w true true e rest = rest (ltb-true v 256 e)
 one_told negative v w true false e rest = wrong_stays w ∙ sym (past negative v w (ltb-false v 256 e))
 one_told negative v w false u e rest = wrong_stays w
@@ -91,7 +93,7 @@ word_begun c w = begun_stays (grown word.Unbegun c) w (grown_begun word.Unbegun 
 
 -- ---- the text from a word on that is begun
 -- what the code does at a byte, by whether that is a blank and whether a word is begun
-abbrev step : Bool → Bool → ℕ → Word → ℕ → List ℕ → Number
+abbrev step : Bool → Bool → ℕ → Word → ℕ → List ℕ → Result ℤ NoNumber
 step blank begun left s c text =
     cond (blank && begun) (cond (eqb left 0) (told s) (number_from (left - 1) word.Unbegun text)) (number_from left (cond blank word.Unbegun (grown s c)) text)
 

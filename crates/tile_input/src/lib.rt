@@ -7,6 +7,8 @@ ghost use Rattle.tile_input.specs.Input.{is_blank, is_digit, signed_by, number_a
 ghost use Rattle.tile_input.specs.Parts.{is_begun, lengthened, grown, after, told};
 
 use distance::{Quad, Tile};
+use std::error::Error;
+use std::fmt;
 
 // A word as far as it is read: none begun, a minus alone, digits (behind a minus, or not), or no number from -255 to 255.
 #[derive(Clone, Copy)]
@@ -17,33 +19,48 @@ enum Word {
     Wrong,
 }
 
-// What stands at a place of the text: a number, a word that is none, or no word.
+// Why no number stands at a place of the text: the word there is none, or the text ends before it.
 #[derive(Clone, Copy)]
-pub enum Number {
-    Is(i16),
+pub enum NoNumber {
     Wrong,
     Missing,
 }
 
-// A tile, or why there is none: the word at a place is wrong, the text ends before a place, there are more words.
-#[derive(Clone, Copy)]
-pub enum Reading {
-    Given(Tile),
+// Why there is no tile: the word at a place is wrong, the text ends before a place, there are more words.
+#[derive(Clone, Copy, Debug)]
+pub enum Unread {
     Wrong(usize),
     Missing(usize),
     More,
 }
 
+impl fmt::Display for Unread {
+    fn fmt<W: fmt::Write>(&self, f: &mut fmt::Formatter<W>) -> fmt::Result {
+        match self {
+            Unread::Wrong(place) => {
+                let word = place.wrapping_add(1);
+                write!(f, "word {word} is no whole number from -255 to 255")
+            }
+            Unread::Missing(place) => {
+                write!(f, "the text ends after {place} numbers, and a tile has 16")
+            }
+            Unread::More => write!(f, "more than 16 words"),
+        }
+    }
+}
+
+impl Error for Unread {}
+
 fn is_blank(byte: u8) -> bool
     ensures { result ≡ is_blank byte }
 {
-    (byte == b' ') | (byte == b'\t') | (byte == b'\n') | (byte == b'\r')
+    matches!(byte, b' ' | b'\t' | b'\n' | b'\r')
 }
 
 fn is_digit(byte: u8) -> bool
     ensures { result ≡ is_digit byte }
 {
-    (b'0' <= byte) & (byte <= b'9')
+    byte.is_ascii_digit()
 }
 
 // One digit more. What is wrong stays wrong, so a number may stop growing at 255.
@@ -53,7 +70,7 @@ fn lengthen(negative: bool, size: u8, byte: u8) -> Word
     if !is_digit(byte) {
         return Word::Wrong;
     }
-    let next = (size as u32) * 10 + (byte - b'0') as u32;
+    let next = u32::from(size) * 10 + u32::from(byte - b'0');
     if 255 < next {
         return Word::Wrong;
     }
@@ -64,12 +81,8 @@ fn grow(word: Word, byte: u8) -> Word
     ensures { result ≡ grown word byte }
 {
     match word {
-        Word::Unbegun => {
-            if byte == b'-' {
-                return Word::Minus;
-            }
-            lengthen(false, 0, byte)
-        }
+        Word::Unbegun if byte == b'-' => Word::Minus,
+        Word::Unbegun => lengthen(false, 0, byte),
         Word::Minus => lengthen(true, 0, byte),
         Word::Digits(negative, size) => lengthen(negative, size, byte),
         Word::Wrong => Word::Wrong,
@@ -79,12 +92,7 @@ fn grow(word: Word, byte: u8) -> Word
 fn is_begun(word: Word) -> bool
     ensures { result ≡ is_begun word }
 {
-    match word {
-        Word::Unbegun => false,
-        Word::Minus => true,
-        Word::Digits(negative, size) => true,
-        Word::Wrong => true,
-    }
+    !matches!(word, Word::Unbegun)
 }
 
 fn word_after(word: Word, byte: u8) -> Word
@@ -99,42 +107,39 @@ fn word_after(word: Word, byte: u8) -> Word
 fn signed_by(negative: bool, size: u8) -> i16
     ensures { result ≡ signed_by negative size }
 {
-    if negative {
-        return 0 - (size as i16);
-    }
-    size as i16
+    let size = i16::from(size);
+    if negative { -size } else { size }
 }
 
 // A minus alone is no number.
-fn tell(word: Word) -> Number
+fn tell(word: Word) -> Result<i16, NoNumber>
     ensures { result ≡ told word }
 {
     match word {
-        Word::Unbegun => Number::Missing,
-        Word::Minus => Number::Wrong,
-        Word::Digits(negative, size) => Number::Is(signed_by(negative, size)),
-        Word::Wrong => Number::Wrong,
+        Word::Unbegun => Err(NoNumber::Missing),
+        Word::Minus => Err(NoNumber::Wrong),
+        Word::Digits(negative, size) => Ok(signed_by(negative, size)),
+        Word::Wrong => Err(NoNumber::Wrong),
     }
 }
 
 // So many words are passed, and the next one is told.
-fn number_at(text: &[u8], place: usize) -> Number
+fn number_at(text: &[u8], place: usize) -> Result<i16, NoNumber>
     ensures { result ≡ number_at text.now place }
 {
     let mut word = Word::Unbegun;
     let mut left = place;
-    for i in 0..text.len() {
-        let byte = text[i];
-        if is_blank(byte) & is_begun(word) {
+    for byte in text {
+        if is_blank(*byte) & is_begun(word) {
             if left == 0 {
                 return tell(word);
             }
             left -= 1;
         }
-        word = word_after(word, byte);
+        word = word_after(word, *byte);
     }
     if 0 < left {
-        return Number::Missing;
+        return Err(NoNumber::Missing);
     }
     tell(word)
 }
@@ -163,27 +168,21 @@ fn tile_from(numbers: &[i16]) -> Tile
     }
 }
 
-pub fn read_tile(text: &[u8]) -> Reading
+pub fn read_tile(text: &[u8]) -> Result<Tile, Unread>
     ensures { result ≡ reading_of text.now }
 {
-    let mut numbers = [0i16; 16];
+    let mut numbers = [0; 16];
+    // Stays by number: a number is looked up by its place.
     for place in 0..16 {
-        let number = number_at(text, place);
-        match number {
-            Number::Is(z) => {
-                numbers[place] = z;
-            }
-            Number::Wrong => {
-                return Reading::Wrong(place);
-            }
-            Number::Missing => {
-                return Reading::Missing(place);
-            }
+        match number_at(text, place) {
+            Ok(number) => numbers[place] = number,
+            Err(NoNumber::Wrong) => return Err(Unread::Wrong(place)),
+            Err(NoNumber::Missing) => return Err(Unread::Missing(place)),
         }
     }
-    let next = number_at(text, 16);
-    let Number::Missing = next else {
-        return Reading::More;
-    };
-    Reading::Given(tile_from(&numbers))
+    match number_at(text, 16) {
+        Ok(_) => Err(Unread::More),
+        Err(NoNumber::Wrong) => Err(Unread::More),
+        Err(NoNumber::Missing) => Ok(tile_from(&numbers)),
+    }
 }

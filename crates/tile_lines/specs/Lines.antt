@@ -1,8 +1,7 @@
 -- A tile's steps as text (docs/TILE.md): the differences, the tile after its column step and after its row step, rows as rows, and the sum of the
 -- absolute values. Definitions alone.
 use Rattle.std.specs.Prelude.{List, ◌++◌, ℕ, ◌-◌, ℤ, pos, length, take}
-use Rattle.distance.specs.declared.Quad.{Quad}
-use Rattle.distance.specs.declared.Tile.{Tile}
+use Rattle.distance.specs.Fours.{Quad, Tile}
 use Rattle.distance.specs.declared.Steps.{Steps}
 use Rattle.distance.specs.Parts.{entry}
 use Rattle.distance.specs.Steps.{steps_of}

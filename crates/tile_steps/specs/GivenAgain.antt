@@ -1,15 +1,12 @@
 -- What is shown of a tile's differences can be given again: its four lines are read as that tile. Assumes nothing.
-use Rattle.std.specs.Prelude.{◌≡◌, ℕ, zero, suc, ◌-◌, ◌≤◌, true, List, [], ◌∷◌, ◌++◌, length, take, ℤ, pos, negsuc, slice_index_or, refl}
+use Rattle.std.specs.Prelude.{◌≡◌, ℕ, zero, suc, ◌-◌, ◌≤◌, true, List, [], ◌∷◌, ◌++◌, length, take, ℤ, pos, negsuc, slice_index_or, refl, Ok}
 use Rattle.std.proofs.Common.{ap, sym, ◌∙◌, append_assoc, append-nil, arith}
 use Rattle.whole.specs.Interval.{Within}
-use Rattle.distance.specs.declared.Quad.{Quad}
-use Rattle.distance.specs.declared.Tile.{Tile}
+use Rattle.distance.specs.Fours.{Quad, Tile}
 use Rattle.distance.specs.Parts.{Small, SmallRows}
 use Rattle.report_text.specs.Text.{codes, decimal}
 use Rattle.report_text.specs.Digits.{digits_length}
 use Rattle.tile_lines.specs.Lines.{entry_text, row_text, tile_text}
-use Rattle.tile_input.specs.declared.Number.TheVariants as number
-use Rattle.tile_input.specs.declared.Reading.TheVariants as reading
 use Rattle.tile_input.specs.Input.{is_blank, words_from, words_of, number_of, read_from, reading_of}
 use Rattle.tile_input.specs.ReadBack.{decimal_read, decimal_word, word_read, blank_skipped}
 
@@ -74,28 +71,28 @@ lines a b c d = simp (append_assoc, append-nil)
 tile_words : (t : Tile) → SmallRows 255 t → words_of (tile_text [] t) ≡ words_in t.a (words_in t.b (words_in t.c (words_in t.d [])))
 tile_words t s =
     ap (words_from []) (lines (row_text t.a) (row_text t.b) (row_text t.c) (row_text t.d))
-    ∙ row_read t.a _ s.in_a
+    ∙ row_read t.a _ s.at_a
     ∙ ap (words_in t.a)
-    (row_read t.b _ s.in_b ∙ ap (words_in t.b) (row_read t.c _ s.in_c ∙ ap (words_in t.c) (row_read t.d [] s.in_d)))
+    (row_read t.b _ s.at_b ∙ ap (words_in t.b) (row_read t.c _ s.at_c ∙ ap (words_in t.c) (row_read t.d [] s.at_d)))
 
 -- four words are a row's four numbers
 record Reads (q : Quad) : Type 0 where
-  a_is : number_of (decimal q.a) ≡ number.Is q.a
-  b_is : number_of (decimal q.b) ≡ number.Is q.b
-  c_is : number_of (decimal q.c) ≡ number.Is q.c
-  d_is : number_of (decimal q.d) ≡ number.Is q.d
+  a_is : number_of (decimal q.a) ≡ Ok q.a
+  b_is : number_of (decimal q.b) ≡ Ok q.b
+  c_is : number_of (decimal q.c) ≡ Ok q.c
+  d_is : number_of (decimal q.d) ≡ Ok q.d
 
 reads : (q : Quad) → Small 255 q → Reads q
 reads q s =
     record { a_is = decimal_read _ s.at_a; b_is = decimal_read _ s.at_b; c_is = decimal_read _ s.at_c; d_is = decimal_read _ s.at_d }
 
 sixteen : (t : Tile) → Reads t.a → Reads t.b → Reads t.c → Reads t.d →
-    read_from (λ place. number_of (slice_index_or (words_in t.a (words_in t.b (words_in t.c (words_in t.d [])))) place [])) 16 [] ≡ reading.Given t
+    read_from (λ place. number_of (slice_index_or (words_in t.a (words_in t.b (words_in t.c (words_in t.d [])))) place [])) 16 [] ≡ Ok t
 unfolding read_from
 sixteen t a b c d =
     rw (a.a_is, a.b_is, a.c_is, a.d_is, b.a_is, b.b_is, b.c_is, b.d_is, c.a_is, c.b_is, c.c_is, c.d_is, d.a_is, d.b_is, d.c_is, d.d_is)
 
-pub given_again : (t : Tile) → SmallRows 255 t → reading_of (tile_text [] t) ≡ reading.Given t
+pub given_again : (t : Tile) → SmallRows 255 t → reading_of (tile_text [] t) ≡ Ok t
 given_again t s =
     ap (λ (words : List (List ℕ)). read_from (λ place. number_of (slice_index_or words place [])) 16 []) (tile_words t s)
-    ∙ sixteen t (reads t.a s.in_a) (reads t.b s.in_b) (reads t.c s.in_c) (reads t.d s.in_d)
+    ∙ sixteen t (reads t.a s.at_a) (reads t.b s.at_b) (reads t.c s.at_c) (reads t.d s.at_d)

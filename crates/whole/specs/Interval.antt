@@ -1,6 +1,6 @@
 -- Numbers in an interval. `Within l h z` says that z lies from -l to h, and the laws carry that through the operations: the bounds
 -- compute, so that a chain of steps asks nothing of `omega`. `Is` ties what the machine reads of a local to the number meant. Assumes nothing.
-use Rattle.std.specs.Prelude.{◌≡◌, refl, Bool, true, false, cond, ℕ, zero, suc, ◌+◌, ◌-◌, ◌*◌, ◌^◌, ◌≤◌, ◌<◌, T, ltb, leb, ℤ, pos, negsuc, ◌+ℤ◌, ◌-ℤ◌}
+use Rattle.std.specs.Prelude.{◌≡◌, refl, Bool, true, false, cond, ℕ, zero, suc, ◌+◌, ◌*◌, ◌^◌, ◌≤◌, ◌<◌, T, ltb, leb, ℤ, pos, negsuc, ◌+ℤ◌, ◌-ℤ◌}
 use Rattle.std.specs.Prelude.{◌*ℤ◌, neg_ℤ, nat_abs, ◌≤ℤ◌}
 use Rattle.std.proofs.Common.{sym, subst, ◌∙◌, mul-le-mul, mul-le-mul_right, div-le_self, arith, ltb→lt, leb→le, to_z-of_z}
 use Rattle.std.specs.Int.Signed.{mag, le_z, quot_z, shr_z, non_neg}

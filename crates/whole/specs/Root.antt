@@ -1,6 +1,6 @@
 -- The whole root: `root_of n` is the largest whole number whose square is at most n, and the only one. Assumes nothing.
 use Rattle.std.specs.Prelude.{◌≡◌, Bool, true, false, not, cond, ℕ, zero, suc, ◌+◌, ◌*◌, ◌/◌, ◌^◌, ◌≤◌, ◌<◌, T, leb}
-use Rattle.std.proofs.Common.{sym, subst, mul-le-mul, lt_of_not-le, pow-suc, le_antisymm, arith, leb→le}
+use Rattle.std.proofs.Common.{sym, ap, subst, mul-le-mul, lt_of_not-le, pow-suc, le_antisymm, arith, leb→le}
 use Rattle.std.proofs.Math.Dec.{nleb→lt}
 use Rattle.whole.specs.Numbers.{IsRoot, or_one_more, root_by, root_of}
 
@@ -32,6 +32,11 @@ root_by_is (suc d) n h = one_step n (root_by d (n / 4)) (root_by_is d (n / 4) (l
 pub root_is : (n : ℕ) → n < 2 ^ 32 → IsRoot n (root_of n)
 unfolding root_of
 root_is n h = root_by_is 16 n h
+
+-- ---- where the code ends: the root of nothing
+pub root_none : (n : ℕ) → n ≡ 0 → 0 ≡ root_of n
+unfolding root_of root_by
+root_none n e = ap root_of (sym e)
 
 -- ---- a step of the code, from the root q of a quarter of n
 module _ (n q : ℕ) (fits : n < 2 ^ 32) (is : q ≡ root_of (n / 4)) where

@@ -2,7 +2,7 @@
 -- of ℤ is a linear fact of ℕ. The rule set `signed`, at the end, turns a goal of ℤ into one of ℕ and reads every such fact in reach:
 -- `omega signed` then closes what is linear. Assumes nothing.
 use Rattle.std.specs.Prelude.{◌≡◌, refl, Bool, true, false, cond, ◌⊎◌, ℕ, zero, suc, ◌+◌, ◌-◌, ◌*◌, ◌^◌, ◌≤◌, ◌<◌, ℤ, pos, negsuc, ◌+ℤ◌, ◌-ℤ◌, ◌*ℤ◌}
-use Rattle.std.specs.Prelude.{neg_ℤ, nat_abs, T, ltb, leb, ◌≤ℤ◌, ◌<ℤ◌}
+use Rattle.std.specs.Prelude.{neg_ℤ, nat_abs, T, ltb, ◌≤ℤ◌, ◌<ℤ◌}
 use Rattle.std.proofs.Common.{sym, ap, subst, ◌∙◌, inl, inr, arith, ltb→lt, lt→ltb, leb→le, le→leb, ltb-true, ltb-false, leb-false, to_z-of_z}
 use Rattle.std.proofs.Math.IntN.{sub_ℕ}
 use Rattle.std.specs.Int.Signed.{mag, lt_z, le_z, non_neg}

@@ -1,6 +1,6 @@
 -- Wrapping: that exactly one number of a signed width is z but for a multiple of the width's power, and what the machine's shifts and masks leave.
 -- Each lemma once, for every width. Assumes nothing.
-use Rattle.std.specs.Prelude.{◌≡◌, refl, Bool, ◌⊎◌, ℕ, suc, ◌+◌, ◌-◌, ◌*◌, ◌/◌, ◌%◌, ◌^◌, ◌≤◌, ◌<◌, ℤ, pos, negsuc, ◌+ℤ◌, ◌*ℤ◌}
+use Rattle.std.specs.Prelude.{◌≡◌, refl, Bool, ℕ, suc, ◌+◌, ◌-◌, ◌*◌, ◌/◌, ◌%◌, ◌^◌, ◌≤◌, ◌<◌, ℤ, pos, negsuc, ◌+ℤ◌, ◌*ℤ◌}
 use Rattle.std.proofs.Common.{sym, ap, ◌∙◌, ⊎_elim, mod-lt, add-mul, div-add-mod', mul-lt-mul_of_pos_right, lt_of_mul-lt-mul_right, mul-div_cancel}
 use Rattle.std.proofs.Common.{mul-le-mul_right, arith, le-ltb, to_z-of_z}
 use Rattle.std.proofs.Math.Nat.{mul-mod_left, one-le-pow}
@@ -8,7 +8,7 @@ use Rattle.std.specs.Int.Bits.{bit_and}
 use Rattle.std.proofs.lemmas.Nat.{and_mask}
 use Rattle.std.proofs.Math.Arith.{digits_div, digits_mod, mod-mul}
 use Rattle.std.specs.Int.Signed.{shr_z}
-use Rattle.std.specs.Int.{Width}
+use Rattle.std.specs.Int.{Width, int_wrap}
 use mir.Val.{SFits, to_z, of_z, sel, bits, hbits}
 use Rattle.std.proofs.Math.Facts.{to_z_pos, sfits_to_z}
 use mir.ValLaws.{pow-bits}
@@ -18,6 +18,12 @@ use Rattle.whole.specs.Floor.{floor_is, mod_below, mod_only, mod_more, mod_times
 
 pub power_positive : (w : Width) → 0 < 2 ^ bits w
 power_positive w = one-le-pow (bits w) 2 (omega arith)
+
+-- `wrapped` is what the library's wrapping methods leave
+pub int_wrap_is : (w : Width) (z : ℤ) → int_wrap w z ≡ wrapped w z
+unfolding int_wrap
+int_wrap_is w (pos a) = refl
+int_wrap_is w (negsuc a) = let m = 2 ^ bits w in ap (to_z w) (let same : m - 1 - a % m ≡ m - suc (a % m) = omega arith in same)
 
 -- a number of at least half the width's power is read as a negative one
 pub to_z_high : (w : Width) (n : ℕ) → 2 ^ hbits w ≤ n → to_z w n ≡ negsuc (2 ^ bits w - suc n)

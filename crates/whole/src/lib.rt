@@ -10,64 +10,63 @@ ghost use Rattle.whole.specs.Numbers.{wrapped, lies_in, fits_i16, lesser_of, gre
 pub fn wrap32(w: i64) -> i32
     ensures { result ≡ wrapped w32 w }
 {
+    // Stays by two shifts: `as` is proved to lose nothing, so it cuts nothing off; a mask and two casts would be no plainer.
     ((w << 32) >> 32) as i32
 }
 
-// In 64 bits neither a sum nor a product of two i32 is cut before it is wrapped.
 pub fn wrapping_add(a: i32, b: i32) -> i32
     ensures { result ≡ wrapped w32 (a +ℤ b) }
 {
-    wrap32(a as i64 + b as i64)
+    a.wrapping_add(b)
 }
 
+#[tactic(auto, using(std::proofs::lemmas::Int::wrapping_mul_is, crate::specs::Wrapping::int_wrap_is))]
 pub fn wrapping_mul(a: i32, b: i32) -> i32
     ensures { result ≡ wrapped w32 (a *ℤ b) }
 {
-    wrap32(a as i64 * b as i64)
+    a.wrapping_mul(b)
 }
 
 pub fn within(value: i32, least: i32, greatest: i32) -> bool
     ensures { result ≡ lies_in least greatest value }
 {
-    (least <= value) & (value <= greatest)
+    (least..=greatest).contains(&value)
 }
 
 pub fn fits_i16(value: i32) -> bool
     ensures { result ≡ fits_i16 value }
 {
-    within(value, -32768, 32767)
+    i16::try_from(value).is_ok()
 }
 
-// How far a number lies from zero. In 64 bits i32::MIN can be turned too.
+// How far a number lies from zero.
 pub fn size(z: i32) -> u32
     ensures { result ≡ nat_abs z }
 {
-    if z < 0 {
-        return (0 - z as i64) as u32;
-    }
-    z as u32
+    z.unsigned_abs()
 }
 
 pub fn lesser(a: i32, b: i32) -> i32
     ensures { result ≡ lesser_of a b }
 {
-    if a < b { a } else { b }
+    a.min(b)
 }
 
 pub fn greater(a: i32, b: i32) -> i32
     ensures { result ≡ greater_of a b }
 {
-    if a < b { b } else { a }
+    a.max(b)
 }
 
 // 1 where a test holds, 0 where it does not: for counting.
 pub fn one_where(test: bool) -> usize
     ensures { result ≡ cond test 1 0 }
 {
-    if test { 1 } else { 0 }
+    usize::from(test)
 }
 
 // The largest whole number whose square is at most n: twice the root of n / 4, or one more.
+#[tactic(auto, using(crate::specs::Root::root_none, crate::specs::Root::quarter_small, crate::specs::Root::square_small, crate::specs::Root::root_odd, crate::specs::Root::root_even))]
 pub fn root(n: u32) -> u32
     ensures { result ≡ root_of n }
 {
@@ -76,8 +75,5 @@ pub fn root(n: u32) -> u32
     }
     let r = 2 * root(n / 4);
     let s = r + 1;
-    if s * s <= n {
-        return s;
-    }
-    r
+    if s * s <= n { s } else { r }
 }

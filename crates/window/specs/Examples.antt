@@ -1,6 +1,5 @@
 -- 02, Three, at the smallest inputs that tell a wrong reading from a right one, by computation.
-use Rattle.std.specs.Prelude.{◌≡◌, refl, Bool, true, false, ℤ, pos, negsuc}
-use Rattle.records.specs.declared.Offset.TheVariants.{Absent}
+use Rattle.std.specs.Prelude.{◌≡◌, refl, Bool, true, false, ℤ, pos, negsuc, None}
 use Rattle.records.specs.declared.Record.{Record}
 use Rattle.window.specs.Windows.{is_searched, is_kept}
 
@@ -8,11 +7,11 @@ use Rattle.window.specs.Windows.{is_searched, is_kept}
 abbrev with_window : ℤ → ℤ → ℤ → ℤ → ℤ → Record
 with_window flags left right top bottom =
     record {
-      full = Absent;
-      overlay = Absent;
-      u = Absent;
-      v = Absent;
-      average = Absent;
+      full = None;
+      overlay = None;
+      u = None;
+      v = None;
+      average = None;
       pos = record { first = pos 0; second = pos 0 };
       cpos = record { first = pos 0; second = pos 0 };
       predictor = record { first = pos 0; second = pos 0 };

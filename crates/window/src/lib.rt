@@ -7,6 +7,7 @@ ghost use Rattle.window.specs.Windows.{bad_flag, half_flag, is_bad, is_negative,
 
 use records::{Pair, Record};
 
+// Stays a number, as the other flag does: a report prints it as 0 or 1.
 pub fn bad_flag(flags: i32) -> i32
     ensures { result ≡ bad_flag flags }
 {
@@ -22,24 +23,20 @@ pub fn half_flag(flags: i32) -> i32
 pub fn is_bad(given: Record) -> bool
     ensures { result ≡ is_bad given }
 {
-    let flags = given.flags;
-    1 <= bad_flag(flags)
+    1 <= bad_flag(given.flags)
 }
 
 pub fn is_negative(given: Record) -> bool
     ensures { result ≡ is_negative given }
 {
-    let flags = given.flags;
-    1 <= half_flag(flags)
+    1 <= half_flag(given.flags)
 }
 
 // In 64 bits no side of any window is cut.
 fn side_of(window: Pair) -> i64
     ensures { result ≡ side_of window }
 {
-    let least = window.first;
-    let greatest = window.second;
-    greatest as i64 - least as i64 + 1
+    i64::from(window.second) - i64::from(window.first) + 1
 }
 
 // Each side is asked: two sides below 0 have a product above it.
@@ -52,17 +49,17 @@ fn both_some(x: i64, y: i64) -> bool
 fn has_candidate(given: Record) -> bool
     ensures { result ≡ has_candidate given }
 {
-    let window_x = given.window_x;
-    let window_y = given.window_y;
-    both_some(side_of(window_x), side_of(window_y))
+    both_some(side_of(given.window_x), side_of(given.window_y))
 }
 
+#[tactic(auto, unfolding(crate::specs::Windows::is_searched))]
 pub fn is_searched(given: Record) -> bool
     ensures { result ≡ is_searched given }
 {
     is_bad(given) & has_candidate(given)
 }
 
+#[tactic(auto, unfolding(crate::specs::Windows::is_kept))]
 pub fn is_kept(given: Record) -> bool
     ensures { result ≡ is_kept given }
 {
@@ -78,9 +75,8 @@ fn window_wide(most: i64, x: i64, y: i64) -> bool
 pub fn is_wide(given: Record, radius: i32) -> bool
     ensures { result ≡ is_wide radius given }
 {
-    let window_x = given.window_x;
-    let window_y = given.window_y;
-    is_bad(given) & window_wide(radius as i64 * 2 + 1, side_of(window_x), side_of(window_y))
+    let most = i64::from(radius) * 2 + 1;
+    is_bad(given) & window_wide(most, side_of(given.window_x), side_of(given.window_y))
 }
 
 pub fn slots_of(radius: i32) -> i32

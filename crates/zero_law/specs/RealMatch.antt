@@ -1,6 +1,6 @@
 -- The third demand, as 02, Two, completes it: at pel 2 or 4 a SAD of 0 with a count of 0 is a match of real samples. Every sample compared at the vector in the
 -- buffer was there in the reference, and the source's weighs what that byte weighs: "two blocks of nothing" are told apart from it. Assumes nothing.
-use Rattle.std.specs.Prelude.{◌≡◌, true, false, List, ◌⊎◌, ℕ, ◌+◌, ◌*◌, ◌/◌, ◌<◌, ℤ, pos, nat_abs, length, get_or}
+use Rattle.std.specs.Prelude.{◌≡◌, true, false, List, ◌⊎◌, ℕ, ◌+◌, ◌*◌, ◌/◌, ◌<◌, ℤ, pos, nat_abs, length, get_or, Option, Some}
 use Rattle.std.proofs.Common.{◌∙◌}
 use Rattle.limits.specs.Sizes.{words_per_record, numbers_per_best}
 use Rattle.records.specs.declared.Record.{Record}
@@ -9,8 +9,6 @@ use Rattle.record_slice.specs.RecordSlice.{record_at}
 use Rattle.distance.specs.Distance.{Block}
 use Rattle.distance.specs.Laws.{Agree}
 use Rattle.plane.specs.declared.Place.{Place}
-use Rattle.plane.specs.declared.Read.{Read}
-use Rattle.plane.specs.declared.Read.TheVariants.{Inside}
 use Rattle.plane.specs.Samples.{placed_from, sample_at}
 use Rattle.plane_view.specs.View.{place_block}
 use Rattle.absent_reads.specs.Absent.{reads_from, AllReal}
@@ -26,9 +24,9 @@ use Rattle.evaluation.specs.Zero.{ZeroLaw}
 use Rattle.zero_law.specs.Counted.{CountLaw}
 
 -- ---- a sample of the source beside what was read in the reference: a byte was there, and both are it
-pub record Matched (read : Read) (source : ℕ) : Type 0 where
+pub record Matched (read : Option ℕ) (source : ℕ) : Type 0 where
   pub byte : ℕ
-  pub there : read ≡ Inside byte
+  pub there : read ≡ Some byte
   pub weighs : source ≡ byte
 
 -- a block of the source, from an offset on in a plane of the reference

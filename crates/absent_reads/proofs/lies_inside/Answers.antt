@@ -15,4 +15,4 @@ pub returns : goal.returns
 returns c e =
     let f = c.ranges.at in
     let front = simp to_z-of_z at c.if-at-lt0.false in
-    from_front c.args.samples.now c.args.at c.args.pitch c.args.w c.args.h front (simp to_z-of_z at e)
+    from_front c.args.samples.bytes.now c.args.at c.args.samples.pitch c.args.w c.args.h front (simp to_z-of_z at e)

@@ -8,8 +8,8 @@ use Rattle.axis.specs.Axis.{place_of}
 use Rattle.axis.specs.Bounds.{excess_within}
 use Rattle.axis.proofs.place.Goals as goal
 
-pub overflow_sub-origin : goal.overflow_sub-origin
-overflow_sub-origin c =
+pub overflow_sub-axis : goal.overflow_sub-axis
+overflow_sub-axis c =
     ask_sub (is_within w32 c.requires.origin tt tt) (is_call w32 c.excess-over.type_inv c.excess-over.ensures (excess_within c.requires)) tt tt
 
 pub returns-then-moves : goal.returns-then-moves
@@ -21,6 +21,6 @@ returns-then-moves c =
     let most = is_sub (is_within w32 c.requires.frame tt tt) (is_within w32 c.requires.side tt tt) tt tt in
     simp c.if-moves.true (got w32 c.lesser.type_inv (lesser_read c.lesser.ensures raised most.same))
 
-pub returns : goal.returns
+pub returns-else-moves : goal.returns-else-moves
 unfolding place_of
-returns c = simp c.if-moves.false (to_z-of_z (fits {w = w32} c.requires.origin tt tt))
+returns-else-moves c = simp c.if-moves.false (to_z-of_z (fits {w = w32} c.requires.origin tt tt))

@@ -48,8 +48,8 @@ above_is c =
 pub overflow_sub-min : goal.overflow_sub-min
 overflow_sub-min c = let at = goal.at.overflow_sub-min c in ask_sub (least_is at.After-end-max) (below_is at.After-lesser) tt tt
 
-pub overflow_add-predictor : goal.overflow_add-predictor
-overflow_add-predictor c = ask_add (is_within w32 c.requires.0.predictor tt tt) (is_within w32 c.requires.0.radius tt tt) tt tt
+pub overflow_add-axis : goal.overflow_add-axis
+overflow_add-axis c = ask_add (is_within w32 c.requires.0.predictor tt tt) (is_within w32 c.requires.0.radius tt tt) tt tt
 
 pub overflow_sub-max : goal.overflow_sub-max
 overflow_sub-max c = let at = goal.at.overflow_sub-max c in ask_sub (end_is at.After-end-max) (above_is at.After-greater) tt tt

@@ -7,49 +7,33 @@ use Rattle.choosing.specs.declared.Chosen.{Chosen}
 use Rattle.choosing.specs.Bounds.{Small}
 use Rattle.tables.specs.Laws.{most_zeros, most_small}
 use Rattle.best.specs.Best.{average_at, with_average, answered, no_table, luma_table, best_of}
-use Rattle.best.specs.Laws.{luma_most, chroma_most, no_chroma, some_chroma, not_looked_at}
+use Rattle.best.specs.Laws.{no_chroma, some_chroma, not_looked_at}
 use Rattle.best.proofs.best_of.Goals as goal
 
 none_small : Small no_table
 none_small = most_small (most_zeros 0) (omega arith)
 
 pub answer-requires-clause-small : goal.answer-requires-clause-small
-answer-requires-clause-small c =
-    let s = c.args in (
-      rw c.luma_table-lumas.ensures
-          (most_small (luma_most c.requires s.luma.now s.reference_luma.now (λ n. omega (arith, c.type_inv.luma n)) (λ n. omega (arith, c.type_inv.reference_luma n))) (omega arith)),
-      none_small,
-    )
+answer-requires-clause-small c = (c.luma_table-lumas.ensures.small, none_small)
 
 pub returns-then-is_negative : goal.returns-then-is_negative
 unfolding best_of
 returns-then-is_negative c =
     let s = c.args in
     let yes : is_negative s.given ≡ true = sym c.is_negative.ensures ∙ c.if-is_negative.true in
-    rw (got w32 c.average_of-average.type_inv c.average_of-average.ensures, c.luma_table-lumas.ensures) at c.answer.ensures
-    ∙ ap (λ (t : List ℕ). answered s.task s.given (luma_table s.task s.given s.luma.now s.reference_luma.now) t (average_at s.task s.given s.luma.now)) (no_chroma s.task s.given s.u.now s.v.now s.reference_u.now s.reference_v.now yes)
+    rw (got w32 c.average_of-average.type_inv c.average_of-average.ensures, c.luma_table-lumas.ensures.value) at c.answer.ensures
+    ∙ ap (λ (t : List ℕ). answered s.task s.given (luma_table s.task s.given s.source.luma.now s.reference.luma.now) t (average_at s.task s.given s.source.luma.now)) (no_chroma s.task s.given s.source.u.now s.source.v.now s.reference.u.now s.reference.v.now yes)
 
 pub answer-requires-then-is_bad-clause-small : goal.answer-requires-then-is_bad-clause-small
-answer-requires-then-is_bad-clause-small c =
-    let s = c.args in (
-      rw c.luma_table-lumas.ensures
-          (most_small (luma_most c.requires s.luma.now s.reference_luma.now (λ n. omega (arith, c.type_inv.luma n)) (λ n. omega (arith, c.type_inv.reference_luma n))) (omega arith)),
-      rw c.chroma_table-chromas.ensures
-          (most_small (chroma_most c.requires s.u.now s.v.now s.reference_u.now s.reference_v.now
-          (λ n. omega (arith, c.type_inv.u n))
-          (λ n. omega (arith, c.type_inv.v n))
-          (λ n. omega (arith, c.type_inv.reference_u n))
-          (λ n. omega (arith, c.type_inv.reference_v n)))
-          (omega arith)),
-    )
+answer-requires-then-is_bad-clause-small c = (c.luma_table-lumas.ensures.small, c.chroma_table-chromas.ensures.small)
 
 pub returns-then-is_bad : goal.returns-then-is_bad
 unfolding best_of
 returns-then-is_bad c =
     let s = c.args in
     let no : is_negative s.given ≡ false = sym c.is_negative.ensures ∙ c.if-is_negative.false in
-    rw (got w32 c.average_of-average.type_inv c.average_of-average.ensures, c.luma_table-lumas.ensures, c.chroma_table-chromas.ensures) at c.answer-then-is_bad.ensures
-    ∙ ap (λ (t : List ℕ). answered s.task s.given (luma_table s.task s.given s.luma.now s.reference_luma.now) t (average_at s.task s.given s.luma.now)) (some_chroma s.task s.given s.u.now s.v.now s.reference_u.now s.reference_v.now no)
+    rw (got w32 c.average_of-average.type_inv c.average_of-average.ensures, c.luma_table-lumas.ensures.value, c.chroma_table-chromas.ensures.value) at c.answer-then-is_bad.ensures
+    ∙ ap (λ (t : List ℕ). answered s.task s.given (luma_table s.task s.given s.source.luma.now s.reference.luma.now) t (average_at s.task s.given s.source.luma.now)) (some_chroma s.task s.given s.source.u.now s.source.v.now s.reference.u.now s.reference.v.now no)
 
 pub answer-requires-2-clause-small : goal.answer-requires-2-clause-small
 answer-requires-2-clause-small c = (none_small, none_small)
@@ -60,4 +44,4 @@ returns c =
     let s = c.args in
     let no : is_bad s.given ≡ false = sym c.is_bad.ensures ∙ c.if-is_bad.false in
     rw (got w32 c.average_of-average.type_inv c.average_of-average.ensures) at c.answer-2.ensures
-    ∙ ap (λ (z : Chosen). with_average s.task s.given z (average_at s.task s.given s.luma.now)) (not_looked_at _ _ _ _ _ _ _ _ no)
+    ∙ ap (λ (z : Chosen). with_average s.task s.given z (average_at s.task s.given s.source.luma.now)) (not_looked_at _ _ _ _ _ _ _ _ no)

@@ -11,8 +11,9 @@ use Rattle.limits.specs.Limits.{shifted_by}
 use Rattle.best.specs.declared.Task.{Task}
 use Rattle.best.specs.Best.{chroma_width, chroma_height, chroma_reference, chroma_offsets, plane_table}
 use Rattle.best.specs.Fair.{Fair}
-use Rattle.best.specs.Laws.{natural_read, width_in, height_in, chroma_sized, table_of_block}
+use Rattle.best.specs.Laws.{natural_read, width_in, height_in, chroma_sized, plane_most, table_of_block}
 use Rattle.best.proofs.plane_table.Goals as goal
+use Rattle.best.proofs.plane_table.Goals.{After-costs}
 
 -- the sides that the machine works out
 abbrev read : ℤ → ℤ
@@ -51,12 +52,12 @@ costs-requires-clause-packed_block c =
         high = rw h size.high;
         held = rw (w, h) (omega (arith, small, c.gather_from-block.type_inv));
       },
-      (c.requires.placed.1, c.requires.offsets_value.1),
+      (rw c.new-view.ensures.1 c.requires.placed.1, c.requires.offsets_value.1),
     )
 
-pub returns : goal.returns
+found : (c : After-costs) → let s = c.args in c.costs.result ≡ plane_table s.task s.given s.origin s.source s.own s.samples.now s.reference.now
 unfolding plane_table chroma_offsets
-returns c =
+found c =
     let s = c.args in
     let fair = c.requires.fair.0 in
     let size = chroma_sized fair in
@@ -64,5 +65,15 @@ returns c =
     let h = h_is fair c.chroma_side-h.ensures in
     let source : c.gather_from-block.result ≡ gathered (chroma_height s.task s.given * chroma_width s.task s.given) (nth (chroma_width s.task s.given) (placed_from s.samples.now s.origin (nat_abs s.source.pitch))) =
     rw (natural_read c.natural.ensures c.requires.placed.0.pitch_in, w, h) at c.gather_from-block.ensures in
-    rw (w, h, c.requires.offsets_value.0, c.choice_of-choice.ensures) at c.costs.ensures
+    rw (w, h, c.new-view.ensures.0, c.new-view.ensures.1, c.requires.offsets_value.0, c.choice_of-choice.ensures) at c.costs.ensures
     ∙ table_of_block (fair.served c.requires.fair.1) s.task.measure _ _ s.reference.now s.own (chroma_reference s.task s.given) _ size.wide size.high source
+
+pub returns-clause-value : goal.returns-clause-value
+returns-clause-value c = found (goal.at.returns-clause-value c).After-costs
+
+-- Costs are small, of bytes.
+pub returns-clause-most : goal.returns-clause-most
+returns-clause-most c =
+    let s = c.args in
+    rw (found (goal.at.returns-clause-most c).After-costs)
+    (plane_most c.requires.fair.0 s.origin s.source s.own s.samples.now s.reference.now (λ n. omega (arith, c.type_inv.samples n)) (λ n. omega (arith, c.type_inv.reference n)))

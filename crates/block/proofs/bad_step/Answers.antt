@@ -1,10 +1,9 @@
 -- The stages of the definition, one call each. Assumes nothing.
-use Rattle.std.specs.Prelude.{ℤ}
+use Rattle.std.specs.Prelude.{ℤ, Some}
 use Rattle.std.proofs.Common.{rules, ap, ◌∙◌, to_z-of_z, FitsSigned}
 use Rattle.std.specs.Int.{w32}
 use mir.Val.{to_z, of_z}
 use Rattle.whole.specs.Signed.{got}
-use Rattle.records.specs.declared.Offset.TheVariants.{At}
 use Rattle.block.specs.Steps.{bad_record}
 use Rattle.block.specs.Bounds.{spot_within}
 use Rattle.block.proofs.Stages.{bad_stages}
@@ -29,8 +28,8 @@ returns c =
     c.filled-written.ensures
     c.is_moved-moves.ensures
     c.spot_of-spot.ensures
-    c.settled-after.ensures
+    c.settled-slots.ensures
     c.active-source.ensures
     (got w32 c.offset_at.type_inv (simp to_z-of_z at c.offset_at.ensures))
     (c.bad_record-made.ensures
-    ∙ ap (λ (l : ℤ). bad_record c.args.block c.args.shape c.spot_of-spot.result l c.active-source.result (At (to_z w32 (of_z w32 c.offset_at.result)))) (to_z-of_z c.ranges.lambda))
+    ∙ ap (λ (l : ℤ). bad_record c.args.block c.args.shape c.spot_of-spot.result l c.active-source.result (Some (to_z w32 (of_z w32 c.offset_at.result)))) (to_z-of_z c.ranges.lambda))

@@ -53,20 +53,20 @@ returns-then-is_bad c =
     ∙ bad_case c.args.s c.args.block c.args.slots h l (sym (bad_is k) ∙ c.if-is_bad.true)
     ∙ stepped c.args.s c.args.block c.args.slots h l c.shape_of-shape.ensures (lambda_is k)
 
-pub returns-then-need_luma : goal.returns-then-need_luma
-returns-then-need_luma c =
-    let k = (goal.at.returns-then-need_luma c).After-is_bad in
+pub returns-then-s : goal.returns-then-s
+returns-then-s c =
+    let k = (goal.at.returns-then-s c).After-is_bad in
     let h = c.shape_of-shape.result in
     let l = to_z w32 (of_z w32 c.lambda_of-lambda.result) in
     c.luma_step.ensures
-    ∙ luma_case c.args.s c.args.block c.args.slots h l (sym (bad_is k) ∙ c.if-is_bad.false) c.if-need_luma.true
+    ∙ luma_case c.args.s c.args.block c.args.slots h l (sym (bad_is k) ∙ c.if-is_bad.false) c.if-s.true
     ∙ stepped c.args.s c.args.block c.args.slots h l c.shape_of-shape.ensures (lambda_is k)
 
-pub returns : goal.returns
-returns c =
-    let k = (goal.at.returns c).After-is_bad in
+pub returns-else-s : goal.returns-else-s
+returns-else-s c =
+    let k = (goal.at.returns-else-s c).After-is_bad in
     let h = c.shape_of-shape.result in
     let l = to_z w32 (of_z w32 c.lambda_of-lambda.result) in
     c.quiet_step.ensures
-    ∙ quiet_case c.args.s c.args.block c.args.slots h l (sym (bad_is k) ∙ c.if-is_bad.false) c.if-need_luma.false
+    ∙ quiet_case c.args.s c.args.block c.args.slots h l (sym (bad_is k) ∙ c.if-is_bad.false) c.if-s.false
     ∙ stepped c.args.s c.args.block c.args.slots h l c.shape_of-shape.ensures (lambda_is k)

@@ -22,6 +22,6 @@ returns c =
     let radius = got w32 c.radius_of-radius.type_inv (c.radius_of-radius.ensures ∙ ap radius_of (to_z-of_z (fits {w = w32} p.search tt tt))) in
     let negative = c.is_negative-negative.ensures in
     alike_shapes
-    (axis_read c.axis_of-across.ensures (to_z-of_z pel) (to_z-of_z width) (to_z-of_z (fits {w = w32} p.step_x tt tt)) (to_z-of_z (fits {w = w32} p.side_x tt tt)) (to_z-of_z (fits {w = w32} p.x tt tt)) (to_z-of_z px) radius negative)
-    (axis_read c.axis_of-down.ensures (to_z-of_z pel) (to_z-of_z height) (to_z-of_z (fits {w = w32} p.step_y tt tt)) (to_z-of_z (fits {w = w32} p.side_y tt tt)) (to_z-of_z (fits {w = w32} p.y tt tt)) (to_z-of_z py) radius negative)
+    (axis_read c.axis_of.ensures (to_z-of_z pel) (to_z-of_z width) (to_z-of_z (fits {w = w32} p.step_x tt tt)) (to_z-of_z (fits {w = w32} p.side_x tt tt)) (to_z-of_z (fits {w = w32} p.x tt tt)) (to_z-of_z px) radius negative)
+    (axis_read c.axis_of-2.ensures (to_z-of_z pel) (to_z-of_z height) (to_z-of_z (fits {w = w32} p.step_y tt tt)) (to_z-of_z (fits {w = w32} p.side_y tt tt)) (to_z-of_z (fits {w = w32} p.y tt tt)) (to_z-of_z py) radius negative)
     negative

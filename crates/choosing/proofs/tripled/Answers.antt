@@ -12,6 +12,6 @@ returns-then-negative c =
     let yes = c.if-negative.true in
     simp yes (got w32 c.wrapping_mul.type_inv (simp to_z-of_z at c.wrapping_mul.ensures))
 
-pub returns : goal.returns
+pub returns-else-negative : goal.returns-else-negative
 unfolding tripled_of
-returns c = let no = c.if-negative.false in simp no (to_z-of_z c.ranges.sad)
+returns-else-negative c = let no = c.if-negative.false in simp no (to_z-of_z c.ranges.sad)

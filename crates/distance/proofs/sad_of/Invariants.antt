@@ -4,4 +4,5 @@ use Rattle.distance.specs.Distance.{sad, block_of}
 use Rattle.distance.proofs.sad_of.Given as goal
 
 abbrev pub invariant-loop-y : goal.invariant-loop-y
-invariant-loop-y l = record { same : l.total ≡ sad l.w l.y (block_of l.a l.ap) (block_of l.b l.bp); below : l.total ≤ 4080 * l.y }
+invariant-loop-y l =
+    record { same : l.total ≡ sad l.w l.y (block_of l.a.bytes.now l.a.pitch) (block_of l.b.bytes.now l.b.pitch); below : l.total ≤ 4080 * l.y }

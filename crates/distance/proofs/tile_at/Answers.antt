@@ -1,14 +1,11 @@
 -- Four rows of differences, and then the tile's code. Assumes nothing.
-use Rattle.std.proofs.Common.{◌∙◌, arith}
-use Rattle.distance.proofs.Rows.{rows_tile, bytes_quad}
+use Rattle.std.proofs.Common.{◌∙◌, ap}
+use Rattle.distance.specs.declared.Steps.{Steps}
+use Rattle.distance.proofs.Slices.{rows_tile}
 use Rattle.distance.proofs.tile_at.Goals as goal
 
-pub hadamard-requires : goal.hadamard-requires
-hadamard-requires c =
-    let small = bytes_quad c.args.a.now c.args.b.now (λ j. omega (arith, c.type_inv.a j)) (λ j. omega (arith, c.type_inv.b j)) in
-    record { in_a = small _ _ _ c.quad_at-p.ensures; in_b = small _ _ _ c.quad_at-q.ensures; in_c = small _ _ _ c.quad_at-r.ensures; in_d = small _ _ _ c.quad_at-s.ensures }
-
-pub returns : goal.returns
-returns c =
-    c.hadamard.ensures
-    ∙ rows_tile c.args.a.now c.args.b.now c.args.i c.args.ap c.args.k c.args.bp c.quad_at-p.ensures c.quad_at-q.ensures c.quad_at-r.ensures c.quad_at-s.ensures
+pub returns-clause-value : goal.returns-clause-value
+returns-clause-value c =
+    c.from.ensures
+    ∙ ap (λ (s : Steps). s.total) c.steps.ensures
+    ∙ rows_tile c.args.a.bytes.now c.args.b.bytes.now c.args.a.pitch c.args.b.pitch c.row_less.ensures.value c.row_less-2.ensures.value c.row_less-3.ensures.value c.row_less-4.ensures.value

@@ -16,7 +16,7 @@ use Rattle.evaluation.proofs.write_all.Goals as goal
 
 pub loop-i-init : goal.loop-i-init
 unfolding bests_upto
-loop-i-init c = (omega arith, refl)
+loop-i-init c = refl
 
 pub record_at-given-requires : goal.record_at-given-requires
 record_at-given-requires c = let l = c.loop-i-test.true in omega arith
@@ -35,7 +35,7 @@ long : (c : goal.After-put-arg-1) → length c.loop-i.bests ≡ length c.args.be
 long c =
     let a = c.args in
     let room = c.requires.words_per_record_in_bounds in
-    written_long a.task a.records.now a.luma.now a.u.now a.v.now a.reference_luma.now a.reference_u.now a.reference_v.now c.loop-i.i a.bests.now c.loop-i.invariant.1 (omega arith)
+    written_long a.task a.records.now a.source.luma.now a.source.u.now a.source.v.now a.reference.luma.now a.reference.u.now a.reference.v.now c.loop-i.i a.bests.now c.loop-i.invariant (omega arith)
 
 pub put-requires : goal.put-requires
 put-requires c =
@@ -45,24 +45,16 @@ put-requires c =
     let room = c.requires.words_per_record_in_bounds in
     omega arith
 
-pub overflow_add-i : goal.overflow_add-i
-overflow_add-i c = omega (arith, c.well_formed)
-
 pub loop-i-preserved : goal.loop-i-preserved
 loop-i-preserved c =
     let a = c.args in
     let q = c.loop-i in
-    let found = c.five_of-five.ensures ∙ ap (λ (r : Record). five_of a.task r a.luma.now a.u.now a.v.now a.reference_luma.now a.reference_u.now a.reference_v.now) c.record_at-given.ensures.value in (
-      omega (arith, c.loop-i-test.true),
-      rw c.put.ensures (written_next a.task a.records.now a.luma.now a.u.now a.v.now a.reference_luma.now a.reference_u.now a.reference_v.now q.i a.bests.now q.invariant.1 found),
-    )
+    let found = c.five_of-five.ensures ∙ ap (λ (r : Record). five_of a.task r a.source.luma.now a.source.u.now a.source.v.now a.reference.luma.now a.reference.u.now a.reference.v.now) c.record_at-given.ensures.value in
+    rw c.put.ensures (written_next a.task a.records.now a.source.luma.now a.source.u.now a.source.v.now a.reference.luma.now a.reference.u.now a.reference.v.now q.i a.bests.now q.invariant found)
 
 pub returns : goal.returns
 returns c =
     let a = c.args in
     let e : c.loop-i.i ≡ length a.records.now / words_per_record = omega arith in
-    c.loop-i.invariant.1
-    ∙ ap (λ (k : ℕ). bests_upto a.task a.records.now a.luma.now a.u.now a.v.now a.reference_luma.now a.reference_u.now a.reference_v.now k ++ drop (numbers_per_best * k) a.bests.now) e
-
-pub loop-i-smaller : goal.loop-i-smaller
-loop-i-smaller c = omega (arith, c.loop-i-test.true)
+    c.loop-i.invariant
+    ∙ ap (λ (k : ℕ). bests_upto a.task a.records.now a.source.luma.now a.source.u.now a.source.v.now a.reference.luma.now a.reference.u.now a.reference.v.now k ++ drop (numbers_per_best * k) a.bests.now) e

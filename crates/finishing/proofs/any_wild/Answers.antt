@@ -1,28 +1,20 @@
--- The loop's invariant: `wild` is the answer for the bests passed. Assumes nothing.
-use borrow.Author.Rules.{rules}
-use mathlib.Core.Path.{◌≡◌, sym, ap, ◌∙◌}
-use native.Mathlib.Omega.{arith}
-use mir.Facts.{to_z-of_z}
-use mir.Syntax.{w32}
-use mir.Val.{SFits}
-use Rattle.whole.specs.Truth.{either_alike}
-use Rattle.limits.specs.Refused.{any_none, any_more}
-use Rattle.finishing.specs.Finish.{x_at, y_at, is_wild, any_wild}
+-- The chain asks each best in turn. Assumes nothing.
+use Rattle.std.proofs.Common.{◌∙◌, Bool, get_or, List, ℤ, [], pos, rules, tests}
+use Rattle.std.proofs.lemmas.Iterator.{YieldsList-from_slice}
+use Rattle.std.proofs.lemmas.Iterator.Search.{any_from_yields_List}
+use Rattle.limits.specs.Refused.{any_alike}
+use Rattle.limits.proofs.Chains.{any_item}
+use Rattle.finishing.specs.Finish.{is_wild}
+use Rattle.finishing.proofs.Fives.{best_of}
 use Rattle.finishing.proofs.any_wild.Goals as goal
 
-pub loop-n-preserved : goal.loop-n-preserved
-loop-n-preserved c =
-    let bests = c.args.bests.now in
-    let x : SFits w32 (x_at bests c.loop-n.n) = search rules in
-    let y : SFits w32 (y_at bests c.loop-n.n) = search rules in (
-      omega arith,
-      either_alike c.loop-n.invariant.1 (simp to_z-of_z at c.is_wild-wild.ensures) ∙ sym (any_more (λ n. is_wild (x_at bests n) (y_at bests n)) c.loop-n.n),
-    )
+abbrev test : List ℤ → Bool
+test best = is_wild (get_or best 0 (pos 0)) (get_or best 1 (pos 0))
 
 pub returns : goal.returns
 returns c =
-    let all : c.loop-n.n ≡ c.args.entries = omega arith in
-    c.loop-n.invariant.1 ∙ ap (any_wild c.args.bests.now) all
-
-pub loop-n-init : goal.loop-n-init
-loop-n-init c = (omega arith, any_none _)
+    let each = c.as_chunks.result.0.now in
+    any_from_yields_List test _ _ _ c.any.ensures.ran (YieldsList-from_slice each (cc)) (λ x b q k. search (rules, tests))
+    ∙ any_item test each []
+    ∙ rw (c.as_chunks.ensures.front_len, c.as_chunks.ensures.front)
+    (any_alike _ _ _ (λ n inside. let best = best_of _ c.args.bests.now n inside in rw (best.x, best.y)))

@@ -1,112 +1,78 @@
--- By the refusal's number: on 0 all entries can be written, and the vectors are, and the output where it is asked for. Assumes nothing.
-use mathlib.Core.Path.{◌≡◌, ◌∙◌}
-use mathlib.Core.Bool.{true}
-use native.Mathlib.Omega.{arith}
-use lib.ListN.{length}
-use mir.Facts.{to_z-of_z}
-use Rattle.finishing.specs.Finish.{finish_answer}
-use Rattle.finishing.specs.Served.{Passed, passed, placed, scored}
-use Rattle.finishing.proofs.Outcome.{refused, done_alone, done_with_output}
+-- Who is let through by every test is served: its entries can be written, and scored. Assumes nothing.
+use Rattle.std.proofs.Common.{◌≡◌, length, arith, to_z-of_z}
+use Rattle.finishing.specs.Finish.{finish_answer, finish_vectors, finish_output}
+use Rattle.finishing.specs.Served.{passed, placed, scored}
+use Rattle.finishing.proofs.Casts.{casts}
 use Rattle.finishing.proofs.finish.Goals as goal
 
-number : (c : goal.Then-refused-gt0) → let s = c.args in
-    c.refusal-refused.result ≡ finish_answer s.nx s.ny s.indices.now s.bests.now s.diagonal s.output_asked (length s.vectors.now) (length s.output.now)
-number c =
-    let f = c.ranges.nx in
-    let g = c.ranges.ny in
-    let h = c.ranges.diagonal in
-    simp to_z-of_z at c.refusal-refused.ensures
-
-pub returns-then-refused-gt0 : goal.returns-then-refused-gt0
-returns-then-refused-gt0 c =
-    let s = c.args in
-    let o = refused s.nx s.ny s.indices.now s.bests.now s.diagonal s.output_asked s.vectors.now s.output.now c.refusal-refused.result (number c) c.if-refused-gt0.true in
-    record { answer = o.number_is; stored = o.vectors_are; written = o.output_is }
-
-number-2 : (c : goal.After-write_vectors-arg-1) → let s = c.args in
-    c.refusal-refused.result ≡ finish_answer s.nx s.ny s.indices.now s.bests.now s.diagonal s.output_asked (length s.vectors.now) (length s.output.now)
-number-2 c =
-    let f = c.ranges.nx in
-    let g = c.ranges.ny in
-    let h = c.ranges.diagonal in
-    simp to_z-of_z at c.refusal-refused.ensures
-
-none : (c : goal.After-write_vectors-arg-1) → let s = c.args in
-    finish_answer s.nx s.ny s.indices.now s.bests.now s.diagonal s.output_asked (length s.vectors.now) (length s.output.now) ≡ 0
-none c = omega (arith, number-2 c)
-
-served : (c : goal.After-write_vectors-arg-1) → let s = c.args in
-    Passed s.nx s.ny s.indices.now s.bests.now s.diagonal s.output_asked (length s.vectors.now) (length s.output.now)
-served c = passed _ _ _ _ _ _ _ _ (none c)
-
 pub write_vectors-requires : goal.write_vectors-requires
+unfolding finish_answer
 write_vectors-requires c =
-    let p = served c in
-    placed p 3 c.args.vectors.now (λ n h. omega (arith, p.held_is))
-
-number-3 : (c : goal.Then-not-output_asked) → let s = c.args in
-    c.refusal-refused.result ≡ finish_answer s.nx s.ny s.indices.now s.bests.now s.diagonal s.output_asked (length s.vectors.now) (length s.output.now)
-number-3 c =
-    let f = c.ranges.nx in
-    let g = c.ranges.ny in
-    let h = c.ranges.diagonal in
-    simp to_z-of_z at c.refusal-refused.ensures
-
-none-2 : (c : goal.Then-not-output_asked) → let s = c.args in
-    finish_answer s.nx s.ny s.indices.now s.bests.now s.diagonal s.output_asked (length s.vectors.now) (length s.output.now) ≡ 0
-none-2 c = omega (arith, number-3 c)
-
-pub returns-then-not-output_asked : goal.returns-then-not-output_asked
-returns-then-not-output_asked c =
     let s = c.args in
-    let o = done_alone s.nx s.ny s.indices.now s.bests.now s.diagonal s.output_asked s.vectors.now s.output.now (none-2 c) c.if-not-output_asked.true in
-    record { answer = o.number_is; stored = c.write_vectors.ensures ∙ o.vectors_are; written = o.output_is }
+    let none : finish_answer s.nx s.ny s.indices.now s.bests.now s.diagonal s.output_asked (length s.vectors.now) (length s.output.now) ≡ 0 = grind (arith, casts) in
+    let p = passed s.nx s.ny s.indices.now s.bests.now s.diagonal s.output_asked (length s.vectors.now) (length s.output.now) none in
+    placed p 3 s.vectors.now (λ n h. let held = p.held_is in omega arith)
 
-number-4 : (c : goal.After-write_output-arg-1) → let s = c.args in
-    c.refusal-refused.result ≡ finish_answer s.nx s.ny s.indices.now s.bests.now s.diagonal s.output_asked (length s.vectors.now) (length s.output.now)
-number-4 c =
-    let f = c.ranges.nx in
-    let g = c.ranges.ny in
-    let h = c.ranges.diagonal in
-    simp to_z-of_z at c.refusal-refused.ensures
-
-none-3 : (c : goal.After-write_output-arg-1) → let s = c.args in
-    finish_answer s.nx s.ny s.indices.now s.bests.now s.diagonal s.output_asked (length s.vectors.now) (length s.output.now) ≡ 0
-none-3 c = omega (arith, number-4 c)
-
-served-2 : (c : goal.After-write_output-arg-1) → let s = c.args in
-    Passed s.nx s.ny s.indices.now s.bests.now s.diagonal s.output_asked (length s.vectors.now) (length s.output.now)
-served-2 c = passed _ _ _ _ _ _ _ _ (none-3 c)
-
-asked : (c : goal.After-write_output-arg-1) → c.args.output_asked ≡ true
-asked c = c.if-not-output_asked.false
-
-pub write_output-requires : goal.write_output-requires
-write_output-requires c =
-    let p = served-2 c in
-    let room = p.room_is (asked c) in
-    let d = c.ranges.diagonal in
-    record { placed = placed p 2 c.args.output.now (λ n h. omega arith); scored = simp to_z-of_z (scored p) }
-
-number-5 : (c : goal.After-output-1) → let s = c.args in
-    c.refusal-refused.result ≡ finish_answer s.nx s.ny s.indices.now s.bests.now s.diagonal s.output_asked (length s.vectors.now) (length s.output.now)
-number-5 c =
-    let f = c.ranges.nx in
-    let g = c.ranges.ny in
-    let h = c.ranges.diagonal in
-    simp to_z-of_z at c.refusal-refused.ensures
-
-none-4 : (c : goal.After-output-1) → let s = c.args in
-    finish_answer s.nx s.ny s.indices.now s.bests.now s.diagonal s.output_asked (length s.vectors.now) (length s.output.now) ≡ 0
-none-4 c = omega (arith, number-5 c)
-
-asked-2 : (c : goal.After-output-1) → c.args.output_asked ≡ true
-asked-2 c = c.if-not-output_asked.false
-
-pub returns : goal.returns
-returns c =
+pub write_output-requires-clause-placed : goal.write_output-requires-clause-placed
+unfolding finish_answer
+write_output-requires-clause-placed c =
     let s = c.args in
-    let d = c.ranges.diagonal in
-    let o = done_with_output s.nx s.ny s.indices.now s.bests.now s.diagonal s.output_asked s.vectors.now s.output.now (none-4 c) (asked-2 c) in
-    let written = simp to_z-of_z at c.write_output.ensures in
-    record { answer = o.number_is; stored = c.write_vectors.ensures ∙ o.vectors_are; written = written ∙ o.output_is }
+    let none : finish_answer s.nx s.ny s.indices.now s.bests.now s.diagonal s.output_asked (length s.vectors.now) (length s.output.now) ≡ 0 = grind (arith, casts) in
+    let p = passed s.nx s.ny s.indices.now s.bests.now s.diagonal s.output_asked (length s.vectors.now) (length s.output.now) none in
+    placed p 2 s.output.now (λ n h. let room = p.room_is c.if-output_asked-2.true in omega arith)
+
+pub write_output-requires-clause-scored : goal.write_output-requires-clause-scored
+unfolding finish_answer
+write_output-requires-clause-scored c =
+    let s = c.args in
+    let none : finish_answer s.nx s.ny s.indices.now s.bests.now s.diagonal s.output_asked (length s.vectors.now) (length s.output.now) ≡ 0 = grind (arith, casts) in
+    let p = passed s.nx s.ny s.indices.now s.bests.now s.diagonal s.output_asked (length s.vectors.now) (length s.output.now) none in
+    let d = c.ranges.diagonal in simp to_z-of_z (scored p)
+
+pub returns-then-any_stray-clause-answer : goal.returns-then-any_stray-clause-answer
+unfolding finish_answer finish_vectors finish_output
+returns-then-any_stray-clause-answer c = grind (arith, casts)
+
+pub returns-then-any_stray-clause-stored : goal.returns-then-any_stray-clause-stored
+unfolding finish_answer finish_vectors finish_output
+returns-then-any_stray-clause-stored c = grind (arith, casts)
+
+pub returns-then-any_stray-clause-written : goal.returns-then-any_stray-clause-written
+unfolding finish_answer finish_vectors finish_output
+returns-then-any_stray-clause-written c = grind (arith, casts)
+
+pub returns-then-any_wild-clause-answer : goal.returns-then-any_wild-clause-answer
+unfolding finish_answer finish_vectors finish_output
+returns-then-any_wild-clause-answer c = grind (arith, casts)
+
+pub returns-then-output-blocks-clause-answer : goal.returns-then-output-blocks-clause-answer
+unfolding finish_answer finish_vectors finish_output
+returns-then-output-blocks-clause-answer c = grind (arith, casts)
+
+pub returns-then-output-blocks-clause-stored : goal.returns-then-output-blocks-clause-stored
+unfolding finish_answer finish_vectors finish_output
+returns-then-output-blocks-clause-stored c = grind (arith, casts)
+
+pub returns-then-output-blocks-clause-written : goal.returns-then-output-blocks-clause-written
+unfolding finish_answer finish_vectors finish_output
+returns-then-output-blocks-clause-written c = grind (arith, casts)
+
+pub returns-then-output_asked-2-clause-answer : goal.returns-then-output_asked-2-clause-answer
+unfolding finish_answer finish_vectors finish_output
+returns-then-output_asked-2-clause-answer c = grind (arith, casts)
+
+pub returns-then-output_asked-2-clause-stored : goal.returns-then-output_asked-2-clause-stored
+unfolding finish_answer finish_vectors finish_output
+returns-then-output_asked-2-clause-stored c = grind (arith, casts)
+
+pub returns-then-output_asked-2-clause-written : goal.returns-then-output_asked-2-clause-written
+unfolding finish_answer finish_vectors finish_output
+returns-then-output_asked-2-clause-written c = grind (arith, casts)
+
+pub returns-else-output_asked-2-clause-answer : goal.returns-else-output_asked-2-clause-answer
+unfolding finish_answer finish_vectors finish_output
+returns-else-output_asked-2-clause-answer c = grind (arith, casts)
+
+pub returns-else-output_asked-2-clause-stored : goal.returns-else-output_asked-2-clause-stored
+unfolding finish_answer finish_vectors finish_output
+returns-else-output_asked-2-clause-stored c = grind (arith, casts)

@@ -30,15 +30,15 @@ overflow_add-result c =
     let g : SFits w32 s.y = search rules in
     let luma = simp to_z-of_z at c.luma_absent-luma.ensures in
     let chroma = simp to_z-of_z at c.chroma_absent.ensures in
-    omega (arith, luma_few c.requires.0 s.reference_luma.now s.x s.y, chroma_few c.requires.0 s.reference_u.now s.reference_v.now s.x s.y)
+    omega (arith, luma_few c.requires.0 s.reference.luma.now s.x s.y, chroma_few c.requires.0 s.reference.u.now s.reference.v.now s.x s.y)
 
-pub returns : goal.returns
+pub returns-else-is_negative : goal.returns-else-is_negative
 unfolding absent_at
-returns c =
+returns-else-is_negative c =
     let s = c.args in
     let f : SFits w32 s.x = search rules in
     let g : SFits w32 s.y = search rules in
     let luma = simp to_z-of_z at c.luma_absent-luma.ensures in
     let chroma = simp to_z-of_z at c.chroma_absent.ensures in
     let plain : is_negative s.given ≡ false = sym c.is_negative.ensures ∙ c.if-is_negative.false in
-    omega arith ∙ all_three (is_negative s.given) (luma_absent s.task s.given s.reference_luma.now s.x s.y) (chroma_absent s.task s.given s.reference_u.now s.reference_v.now s.x s.y) plain
+    omega arith ∙ all_three (is_negative s.given) (luma_absent s.task s.given s.reference.luma.now s.x s.y) (chroma_absent s.task s.given s.reference.u.now s.reference.v.now s.x s.y) plain

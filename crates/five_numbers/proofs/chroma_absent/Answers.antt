@@ -26,7 +26,7 @@ unfolding plane_absent
 counted task given samples own x y at e f told = told ∙ same_count samples {p = own} refl at e f
 
 pub vector_offset-at-requires-clause-reached : goal.vector_offset-at-requires-clause-reached
-vector_offset-at-requires-clause-reached c = rw c.chroma_reference-reference.ensures (chroma_reached c.requires.0)
+vector_offset-at-requires-clause-reached c = rw c.chroma_reference.ensures (chroma_reached c.requires.0)
 
 pub chroma_side-w-requires : goal.chroma_side-w-requires
 chroma_side-w-requires c = read_within (is_within w32 (width_in c.requires.0) tt tt)
@@ -55,10 +55,10 @@ overflow_add-result c =
     let own = s.task.reference in
     let w = rw ((is_within w32 (width_in fair) tt tt).same, (is_within w32 fair.shift_in tt tt).same) at c.chroma_side-w.ensures in
     let h = rw ((is_within w32 (height_in fair) tt tt).same, (is_within w32 fair.shift_in tt tt).same) at c.chroma_side-h.ensures in
-    let at = offset_is c.requires.1 c.chroma_reference-reference.ensures c.vector_offset-at.type_inv c.vector_offset-at.ensures.value in
-    let u = counted s.task s.given s.reference_u.now own.u s.x s.y at w h c.absent-in_u.ensures in
-    let v = counted s.task s.given s.reference_v.now own.v s.x s.y at w h c.absent-in_v.ensures in
-    omega (arith, plane_few fair own.u s.reference_u.now s.x s.y, plane_few fair own.v s.reference_v.now s.x s.y)
+    let at = offset_is c.requires.1 c.chroma_reference.ensures c.vector_offset-at.type_inv c.vector_offset-at.ensures.value in
+    let u = counted s.task s.given s.reference.u.now own.u s.x s.y at w h (rw (c.new.ensures.0, c.new.ensures.1) at c.absent-in_u.ensures) in
+    let v = counted s.task s.given s.reference.v.now own.v s.x s.y at w h (rw (c.new-2.ensures.0, c.new-2.ensures.1) at c.absent-in_v.ensures) in
+    omega (arith, plane_few fair own.u s.reference.u.now s.x s.y, plane_few fair own.v s.reference.v.now s.x s.y)
 
 pub returns : goal.returns
 unfolding chroma_absent
@@ -68,7 +68,7 @@ returns c =
     let own = s.task.reference in
     let w = rw ((is_within w32 (width_in fair) tt tt).same, (is_within w32 fair.shift_in tt tt).same) at c.chroma_side-w.ensures in
     let h = rw ((is_within w32 (height_in fair) tt tt).same, (is_within w32 fair.shift_in tt tt).same) at c.chroma_side-h.ensures in
-    let at = offset_is c.requires.1 c.chroma_reference-reference.ensures c.vector_offset-at.type_inv c.vector_offset-at.ensures.value in
-    let u = counted s.task s.given s.reference_u.now own.u s.x s.y at w h c.absent-in_u.ensures in
-    let v = counted s.task s.given s.reference_v.now own.v s.x s.y at w h c.absent-in_v.ensures in
+    let at = offset_is c.requires.1 c.chroma_reference.ensures c.vector_offset-at.type_inv c.vector_offset-at.ensures.value in
+    let u = counted s.task s.given s.reference.u.now own.u s.x s.y at w h (rw (c.new.ensures.0, c.new.ensures.1) at c.absent-in_u.ensures) in
+    let v = counted s.task s.given s.reference.v.now own.v s.x s.y at w h (rw (c.new-2.ensures.0, c.new-2.ensures.1) at c.absent-in_v.ensures) in
     omega arith

@@ -15,5 +15,5 @@ pub returns : goal.returns
 unfolding luma_absent
 returns c =
     let at = offset_is c.requires.1 c.luma_reference-reference.ensures c.vector_offset-at.type_inv c.vector_offset-at.ensures.value in
-    c.absent.ensures
+    (rw (c.new-view.ensures.0, c.new-view.ensures.1) at c.absent.ensures)
     ∙ same_count c.args.reference_luma.now (ap (λ (r : Reference). r.place) c.luma_reference-reference.ensures) at c.width_of-w.ensures c.height_of-h.ensures

@@ -1,16 +1,16 @@
--- A count is its number, and none is -1. Assumes nothing.
-use Rattle.std.proofs.Common.{sym, ap, ◌∙◌, rules, to_z-of_z}
+-- The count, or -1. Assumes nothing.
+use Rattle.std.specs.Prelude.{◌≡◌, refl, ℤ, negsuc, Option, Some, None}
+use Rattle.std.proofs.Common.{◌∙◌}
 use Rattle.std.specs.Int.{w32}
-use mir.Val.{SFits}
+use Rattle.std.specs.Option.{unwrap_or}
+use Rattle.whole.specs.Signed.{got}
 use Rattle.five_numbers.specs.Five.{number_of}
 use Rattle.five_numbers.proofs.number_of.Goals as goal
 
-pub returns-in_default : goal.returns-in_default
+alike : (absences : Option ℤ) → unwrap_or absences (negsuc 0) ≡ number_of absences
 unfolding number_of
-returns-in_default c = sym (ap number_of c.in_default.is)
+alike (Some absent) = refl
+alike None = refl
 
 pub returns : goal.returns
-unfolding number_of
-returns c =
-    let f : SFits w32 c.in-Counted.absent = search rules in
-    to_z-of_z f ∙ sym (ap number_of c.in-Counted.is)
+returns c = got w32 c.unwrap_or.type_inv (c.unwrap_or.ensures ∙ alike c.args.absences)

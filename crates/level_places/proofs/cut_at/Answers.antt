@@ -28,6 +28,6 @@ returns c =
     let width : to_z w32 (of_z w32 c.plane_size.result) ≡ plane_size f.frame.x f.level = got w32 c.plane_size.type_inv (simp to_z-of_z at c.plane_size.ensures) in
     let height : to_z w32 (of_z w32 c.plane_size-2.result) ≡ plane_size f.frame.y f.level = got w32 c.plane_size-2.type_inv (simp to_z-of_z at c.plane_size-2.ensures) in
     alike (to_z-of_z c.ranges.pitch)
-    (got w32 c.shifted-w.type_inv (side shift.x width (rw (to_z-of_z sx) at c.shifted-w.ensures)))
-    (got w32 c.shifted-h.type_inv (side shift.y height (rw (to_z-of_z sy) at c.shifted-h.ensures)))
+    (got w32 c.shifted.type_inv (side shift.x width (rw (to_z-of_z sx) at c.shifted.ensures)))
+    (got w32 c.shifted-2.type_inv (side shift.y height (rw (to_z-of_z sy) at c.shifted-2.ensures)))
     (got w32 c.pel_of.type_inv c.pel_of.ensures)

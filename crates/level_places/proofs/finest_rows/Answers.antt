@@ -11,40 +11,34 @@ use Rattle.level_places.specs.Asked.{Rowed}
 use Rattle.level_places.specs.Levels.{whole_rows, finest_rows}
 use Rattle.level_places.specs.Counted.{whole_most}
 use Rattle.level_places.proofs.finest_rows.Goals as goal
+use Rattle.level_places.proofs.finest_rows.Goals.{After-size}
 
--- what the three sizes come to
-rows : (f : SuperFrame) (shift : ℤ) {a b c : ℕ} {H : ℤ} → Rowed f → FitsSigned w32 shift → a ≡ nat_abs (to_z w32 (of_z w32 f.pel)) → b ≡ nat_abs (to_z w32 (of_z w32 f.pel)) →
-    H ≡ shifted_by f.frame.y shift → c ≡ nat_abs H → a * b * c ≡ whole_rows f shift
+-- what the two sizes come to
+rows : (f : SuperFrame) (shift : ℤ) {a c : ℕ} {H : ℤ} → Rowed f → FitsSigned w32 shift → a ≡ nat_abs (to_z w32 (of_z w32 f.pel)) →
+    H ≡ shifted_by f.frame.y shift → c ≡ nat_abs H → a * a * c ≡ whole_rows f shift
 unfolding whole_rows
-rows f shift asked fit p q r s =
+rows f shift asked fit p r s =
     let pel : FitsSigned w32 f.pel = fits (pel_within f.pel asked.pel_in) tt tt in
-    rw (simp to_z-of_z at p, simp to_z-of_z at q, s, r)
+    rw (simp to_z-of_z at p, s, r)
 
-pub overflow_mul-rows : goal.overflow_mul-rows
-overflow_mul-rows c =
-    let f = c.args.frame in
-    let height : FitsSigned w32 f.frame.y = fits c.requires.height_in tt tt in
+counted : (c : After-size) → c.size-pel.result * c.size-pel.result * c.size.result ≡ whole_rows c.args.frame c.args.shift
+counted c =
+    let height : FitsSigned w32 c.args.frame.frame.y = fits c.requires.height_in tt tt in
     let shift = c.ranges.shift in
     let shifted = got w32 c.shifted.type_inv (simp to_z-of_z at c.shifted.ensures) in
-    rw (rows f c.args.shift c.requires shift c.size.ensures c.size-2.ensures shifted c.size-3.ensures) (omega (arith, whole_most f c.requires c.args.shift))
+    rows c.args.frame c.args.shift c.requires shift c.size-pel.ensures shifted c.size.ensures
 
-pub returns-then-separate-clause-value : goal.returns-then-separate-clause-value
+pub overflow_mul-rows-2 : goal.overflow_mul-rows-2
+overflow_mul-rows-2 c = rw (counted c) (omega (arith, whole_most c.args.frame c.requires c.args.shift))
+
+pub returns-then-frame-clause-value : goal.returns-then-frame-clause-value
 unfolding finest_rows
-returns-then-separate-clause-value c = rw c.if-separate.true
+returns-then-frame-clause-value c = rw c.if-frame.true
 
-pub returns-clause-value : goal.returns-clause-value
+pub returns-else-frame-clause-value : goal.returns-else-frame-clause-value
 unfolding finest_rows whole_rows
-returns-clause-value c =
-    let f = c.args.frame in
-    let height : FitsSigned w32 f.frame.y = fits c.requires.height_in tt tt in
-    let shift = c.ranges.shift in
-    let shifted = got w32 c.shifted.type_inv (simp to_z-of_z at c.shifted.ensures) in
-    rw c.if-separate.false (rows f c.args.shift c.requires shift c.size.ensures c.size-2.ensures shifted c.size-3.ensures)
+returns-else-frame-clause-value c = rw c.if-frame.false (counted (goal.at.returns-else-frame-clause-value c).After-size)
 
-pub returns-clause-upper_bound : goal.returns-clause-upper_bound
-returns-clause-upper_bound c =
-    let f = c.args.frame in
-    let height : FitsSigned w32 f.frame.y = fits c.requires.height_in tt tt in
-    let shift = c.ranges.shift in
-    let shifted = got w32 c.shifted.type_inv (simp to_z-of_z at c.shifted.ensures) in
-    rw (rows f c.args.shift c.requires shift c.size.ensures c.size-2.ensures shifted c.size-3.ensures) (whole_most f c.requires c.args.shift)
+pub returns-else-frame-clause-upper_bound : goal.returns-else-frame-clause-upper_bound
+returns-else-frame-clause-upper_bound c =
+    rw (counted (goal.at.returns-else-frame-clause-upper_bound c).After-size) (whole_most c.args.frame c.requires c.args.shift)

@@ -19,4 +19,4 @@ returns c =
     let source_luma : FitsSigned w32 f.source_pitch.luma = search rules in
     let source_u : FitsSigned w32 f.source_pitch.u = search rules in
     let source_v : FitsSigned w32 f.source_pitch.v = search rules in
-    alike (simp to_z-of_z at c.place_of-luma.ensures) (simp to_z-of_z at c.place_of-u.ensures) (simp to_z-of_z at c.place_of-v.ensures)
+    alike (simp to_z-of_z at c.place_of.ensures) (simp to_z-of_z at c.place_of-2.ensures) (simp to_z-of_z at c.place_of-3.ensures)

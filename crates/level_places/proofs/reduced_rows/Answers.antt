@@ -6,14 +6,13 @@ use Rattle.level_places.proofs.reduced_rows.Goals as goal
 together : {a b A B : ℕ} → a ≡ A → b ≡ B → a + b ≡ A + B
 together p q = cc
 
-pub loop-lv-init : goal.loop-lv-init
-loop-lv-init c = record { reach = omega arith; counted = none_reduced _ _; few = omega arith }
+pub loop-above-init : goal.loop-above-init
+loop-above-init c = record { counted = none_reduced _ _; few = omega arith }
 
-pub loop-lv-preserved : goal.loop-lv-preserved
-loop-lv-preserved c =
+pub loop-above-preserved : goal.loop-above-preserved
+loop-above-preserved c =
     let most = c.level_rows-rows.ensures.upper_bound in
     record {
-      reach = omega arith;
-      counted = together c.loop-lv.invariant.counted c.level_rows-rows.ensures.value ∙ sym (one_more _ _ _);
+      counted = together c.loop-above.invariant.counted c.level_rows-rows.ensures.value ∙ sym (one_more _ _ _);
       few = omega arith;
     }

@@ -1,7 +1,7 @@
 -- Each refusal behind the tests before it, and then the three planes. Assumes nothing.
+use Rattle.std.specs.Prelude.{Ok}
 use Rattle.std.proofs.Common.{sym, ap, ◌∙◌, FitsSigned, to_z-of_z, length, rules}
 use Rattle.std.specs.Int.{w32}
-use Rattle.levels.specs.declared.Levelled.TheVariants.{Cut}
 use Rattle.levels.specs.Refusals.{all_have_sides, lengths_kept, refusal_of, level_answer}
 use Rattle.levels.specs.Accepted.{cuttable}
 use Rattle.levels.proofs.level.Goals as goal
@@ -44,7 +44,7 @@ returns-then-not-lengths_kept c =
     let sides = sym (c.all_have_sides.ensures ∙ ap all_have_sides c.planes_of-planes.ensures) ∙ c.if-not-all_have_sides.false in
     let kept =
     c.lengths_kept.ensures
-    ∙ ap (lengths_kept a.frame (length a.luma.now) (length a.u.now) (length a.v.now) (length a.source_luma.now) (length a.source_u.now) (length a.source_v.now)) c.planes_of-planes.ensures
+    ∙ ap (lengths_kept a.frame (length a.packed.luma.now) (length a.packed.u.now) (length a.packed.v.now) (length a.source.luma.now) (length a.source.u.now) (length a.source.v.now)) c.planes_of-planes.ensures
     in
     let e = sym kept ∙ c.if-not-lengths_kept.true in
     simp (two, ranged, sides, e)
@@ -59,7 +59,7 @@ returns c =
     let sides = sym (c.all_have_sides.ensures ∙ ap all_have_sides c.planes_of-planes.ensures) ∙ c.if-not-all_have_sides.false in
     let kept =
     c.lengths_kept.ensures
-    ∙ ap (lengths_kept a.frame (length a.luma.now) (length a.u.now) (length a.v.now) (length a.source_luma.now) (length a.source_u.now) (length a.source_v.now)) c.planes_of-planes.ensures
+    ∙ ap (lengths_kept a.frame (length a.packed.luma.now) (length a.packed.u.now) (length a.packed.v.now) (length a.source.luma.now) (length a.source.u.now) (length a.source.v.now)) c.planes_of-planes.ensures
     in
     let e = sym kept ∙ c.if-not-lengths_kept.false in
-    simp (two, ranged, sides, e) (ap Cut c.planes_of-planes.ensures)
+    simp (two, ranged, sides, e) (ap Ok c.planes_of-planes.ensures)

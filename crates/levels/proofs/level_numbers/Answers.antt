@@ -8,8 +8,8 @@ pub put_planes-requires-clause-bases_fit : goal.put_planes-requires-clause-bases
 put_planes-requires-clause-bases_fit c =
     let a = c.args in
     let means =
-    cut_means a.frame (length a.luma.now) (length a.u.now) (length a.v.now) (length a.source_luma.now) (length a.source_u.now) (length a.source_v.now)
-    (sym c.level-answer.ensures ∙ c.in-Cut.is)
+    cut_means a.frame (length a.packed.luma.now) (length a.packed.u.now) (length a.packed.v.now) (length a.source.luma.now) (length a.source.u.now) (length a.source.v.now)
+    (sym c.level.ensures ∙ c.in_ok-planes.was)
     in
     subst BasesFit (sym means.1)
-    (bases_fit a.frame (length a.luma.now) (length a.u.now) (length a.v.now) (length a.source_luma.now) (length a.source_u.now) (length a.source_v.now) means.0)
+    (bases_fit a.frame (length a.packed.luma.now) (length a.packed.u.now) (length a.packed.v.now) (length a.source.luma.now) (length a.source.u.now) (length a.source.v.now) means.0)

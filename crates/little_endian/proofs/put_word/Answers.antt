@@ -1,25 +1,20 @@
--- Each byte is stored at its place; what four stores leave is a law of Stores. Assumes nothing.
-use Rattle.std.proofs.Common.{◌≡◌, List, [], ◌∷◌, ◌++◌, ℕ, ℤ, ap, ◌∙◌}
-use Rattle.whole.specs.Numbers.{mod_z}
-use Rattle.whole.specs.Interval.{word, is_shr}
+-- The library's four bytes are those of the definition, of a word below zero too. Assumes nothing.
+use Rattle.std.proofs.Common.{◌≡◌, List, [], ◌∷◌, ◌++◌, drop, ℕ, ◌<◌, ℤ, pos, negsuc, refl, ap, ◌∙◌, arith, w32, of_z, to_z-of_z, FitsSigned}
+use Rattle.std.specs.Int.{to_le_bytes}
 use Rattle.little_endian.specs.Bytes.{bytes_of}
-use Rattle.little_endian.specs.Stores.{four_stores}
 use Rattle.little_endian.proofs.put_word.Goals as goal
 
-four : {a b c d A B C D : ℕ} {l : List ℕ} → a ≡ A → b ≡ B → c ≡ C → d ≡ D → (a ∷ b ∷ c ∷ d ∷ []) ++ l ≡ (A ∷ B ∷ C ∷ D ∷ []) ++ l
+four : {a b c d A B C D : ℕ} → a ≡ A → b ≡ B → c ≡ C → d ≡ D → ◌≡◌ {A = List ℕ} (a ∷ b ∷ c ∷ d ∷ []) (A ∷ B ∷ C ∷ D ∷ [])
 four p q r s = cc
 
--- what a byte's call gives, of the word shifted down
-byte : {X x : ℤ} {b : ℕ} → b ≡ mod_z X 256 → X ≡ x → b ≡ mod_z x 256
-byte e same = e ∙ ap (λ (z : ℤ). mod_z z 256) same
+written : (z : ℤ) → FitsSigned w32 z → to_le_bytes w32 (of_z w32 z) ≡ bytes_of z
+unfolding bytes_of
+written (pos n) f = refl
+written (negsuc n) f =
+    let l : n < 2147483648 = f.sfits in
+    four (omega arith) (omega arith) (omega arith) (omega arith)
 
 pub returns : goal.returns
-unfolding bytes_of
 returns c =
-    let w = word c.ranges.word in
-    four_stores c.args.out.now c.low_byte.result c.low_byte-2.result c.low_byte-3.result c.low_byte-4.result c.requires
-    ∙ four
-    (byte c.low_byte.ensures w.same)
-    (byte c.low_byte-2.ensures (is_shr 256 w tt tt).same)
-    (byte c.low_byte-3.ensures (is_shr 65536 w tt tt).same)
-    (byte c.low_byte-4.ensures (is_shr 16777216 w tt tt).same)
+    let f = c.ranges.word in
+    ap (λ (l : List ℕ). l ++ drop 4 c.args.out.now) (c.copy_from_slice.ensures.after ∙ (simp to_z-of_z at c.to_le_bytes.ensures) ∙ written c.args.word f)

@@ -5,8 +5,8 @@ use Rattle.passes.proofs.turn_at.Goals as goal
 pub returns : goal.returns
 returns c =
     turn_made c.args.s c.args.order.now c.args.vectors.now c.args.i c.args.slots
-    c.index_at-index.ensures
+    c.index_at.ensures
     c.block_at-block.ensures
     c.plan_block-step.ensures
-    c.record_fits-fits.ensures
-    c.words_of-words.ensures
+    c.record_fits.ensures
+    c.words_of.ensures

@@ -1,11 +1,10 @@
--- Each call begins where the one before it ended. Assumes nothing.
-use Rattle.std.proofs.Common.{rules, w32, SFits}
-use Rattle.std.proofs.Math.Facts.{to_z-of_z}
+-- Each part behind the one before it. Assumes nothing.
+use Rattle.std.proofs.Common.{rules, w32, SFits, to_z-of_z}
 use Rattle.plan_lines.specs.Parts.{head_put}
 use Rattle.plan_lines.proofs.head_text.Goals as goal
 
-pub returns-clause-puts : goal.returns-clause-puts
-returns-clause-puts c =
+pub returns : goal.returns
+returns c =
     let h = c.args.head in
     let f0 : SFits w32 h.count = search rules in
     let f1 : SFits w32 h.searched = search rules in
@@ -14,5 +13,8 @@ returns-clause-puts c =
     let f4 : SFits w32 h.height = search rules in
     let f5 : SFits w32 h.pel = search rules in
     let f6 : SFits w32 h.slots = search rules in
-    head_put h c.put_field-blocks.ensures.puts c.put_two-bad.ensures.puts c.put_two-size.ensures.puts c.put_two-rest.ensures.puts c.put.ensures
-    (to_z-of_z f0) (to_z-of_z f1) (to_z-of_z f2) (to_z-of_z f3) (to_z-of_z f4) (to_z-of_z f5) (to_z-of_z f6)
+    let blocks = simp (to_z-of_z, c.new-text.ensures) at c.put_field.ensures.puts in
+    let bad = simp to_z-of_z at c.put_two.ensures.puts in
+    let size = simp to_z-of_z at c.put_two-2.ensures.puts in
+    let rest = simp to_z-of_z at c.put_two-3.ensures.puts in
+    head_put h blocks bad size rest c.put.ensures

@@ -13,19 +13,19 @@ returns-in_default c = rw c.in_default.is refl
 
 pub returns-then-h-lt4 : goal.returns-then-h-lt4
 unfolding average_of
-returns-then-h-lt4 c = rw (c.in-At.is, lt-ltb _ _ c.if-h-lt4.true)
+returns-then-h-lt4 c = rw (c.in-Some.is, lt-ltb _ _ c.if-h-lt4.true)
 
 pub returns : goal.returns
 unfolding average_of
 returns c =
     let w = c.args.w in
     let h = c.args.h in
-    let f : FitsSigned w32 c.in-At.at = search rules in
-    let block = placed_at c.args.samples.now c.in-At.at c.args.pitch in
+    let f : FitsSigned w32 c.in-Some.at = search rules in
+    let block = placed_at c.args.samples.bytes.now c.in-Some.at c.args.samples.pitch in
     let out = rw (widened f).same at c.gather-block.ensures in
     let sum_is : c.cost-total.result ≡ total w h block =
     c.cost-total.ensures ∙ total_gathered w h block c.requires.pitch_bound.1.0 c.requires.pitch_bound.1.1 c.gather-block.result out
     in
     let small : c.cost-total.result / (w * h) < 2147483648 = average_small w h c.cost-total.result c.requires.power c.if-h-lt4.false (omega arith) in
     let power = c.requires.power in
-    to_z_pos w32 small ∙ rw (c.in-At.is, le-ltb _ _ c.if-h-lt4.false, power) (ap (λ (n : ℕ). pos (n / (w * h))) sum_is)
+    to_z_pos w32 small ∙ rw (c.in-Some.is, le-ltb _ _ c.if-h-lt4.false, power) (ap (λ (n : ℕ). pos (n / (w * h))) sum_is)

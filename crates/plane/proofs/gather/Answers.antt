@@ -19,5 +19,5 @@ loop-y-init c = same_count {m = 0} _ (omega arith) (sym (gathered_none _))
 
 pub loop-x-preserved : goal.loop-x-preserved
 loop-x-preserved c =
-    let block = placed_at c.args.samples.now (to_z w64 (of_z w64 c.args.at)) c.args.pitch in
+    let block = placed_at c.args.samples.bytes.now (to_z w64 (of_z w64 c.args.at)) c.args.samples.pitch in
     one_more c.args.w block c.loop-y.y c.loop-x-test.true c.sample_on.ensures c.loop-x.invariant

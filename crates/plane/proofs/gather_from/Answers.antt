@@ -13,5 +13,5 @@ returns-in_default c = rw c.in_default.is (sym (gathered_zeros (c.args.h * c.arg
 pub returns : goal.returns
 unfolding placed_from
 returns c =
-    let f : FitsSigned w32 c.in-At.at = search rules in
-    rw c.in-At.is (rw (widened f).same at c.gather.ensures)
+    let f : FitsSigned w32 c.in-Some.at = search rules in
+    rw c.in-Some.is (rw (widened f).same at c.gather.ensures)

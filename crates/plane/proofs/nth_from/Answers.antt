@@ -11,5 +11,5 @@ returns-in_default c = rw c.in_default.is
 pub returns : goal.returns
 unfolding placed_from
 returns c =
-    let f : FitsSigned w32 c.in-At.at = search rules in
-    rw c.in-At.is (simp to_z-of_z at c.nth_at.ensures)
+    let f : FitsSigned w32 c.in-Some.at = search rules in
+    rw c.in-Some.is (simp to_z-of_z at c.nth_at.ensures)

@@ -11,9 +11,9 @@ returns-in_default c = rw c.in_default.is c.nth_from.ensures
 pub returns-then-b-half : goal.returns-then-b-half
 unfolding source_at
 returns-then-b-half c =
-    let f : FitsSigned w32 c.in-At.at = search rules in
-    rw (c.in-At.is, lt-ltb _ _ c.if-b-half.true) (simp to_z-of_z at c.nth_at.ensures)
+    let f : FitsSigned w32 c.in-Some.at = search rules in
+    rw (c.in-Some.is, lt-ltb _ _ c.if-b-half.true) (simp to_z-of_z at c.nth_at.ensures)
 
 pub returns : goal.returns
 unfolding source_at
-returns c = rw (c.in-At.is, le-ltb _ _ c.if-b-half.false) c.nth_from-2.ensures
+returns c = rw (c.in-Some.is, le-ltb _ _ c.if-b-half.false) c.nth_from-2.ensures

@@ -5,4 +5,8 @@ use Rattle.planes.proofs.holds_3.Goals as goal
 
 pub returns : goal.returns
 unfolding holds3
-returns c = three_alike c.length_kept.ensures c.length_kept-2.ensures c.length_kept-3.ensures
+returns c =
+    three_alike
+    (rw (c.new.ensures.0, c.new.ensures.1) at c.keeps_length.ensures)
+    (rw (c.new-2.ensures.0, c.new-2.ensures.1) at c.keeps_length-2.ensures)
+    (rw (c.new-3.ensures.0, c.new-3.ensures.1) at c.keeps_length-3.ensures)

@@ -21,5 +21,5 @@ returns c =
     (simp to_z-of_z at c.is_block.ensures)
     (ap (le_z (pos 2)) (to_z-of_z x))
     (ap (le_z (pos 2)) (to_z-of_z y))
-    (ap (λ (n : ℕ). eqb c.args.listed (2 * n)) c.count_of-n.ensures.value)
+    (ap (λ (n : ℕ). eqb c.args.listed (2 * n)) c.count_of.ensures.value)
     (simp to_z-of_z at c.within.ensures)

@@ -17,4 +17,4 @@ returns c =
     (simp to_z-of_z at c.is_pel.ensures)
     (simp to_z-of_z at c.are_shifts.ensures)
     c.planes_hold.ensures
-    (ap (λ (n : ℕ). eqb c.args.held (3 * n)) c.count_of-n.ensures.value)
+    (ap (λ (n : ℕ). eqb c.args.held (3 * n)) c.count_of.ensures.value)

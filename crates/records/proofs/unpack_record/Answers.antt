@@ -1,22 +1,14 @@
--- The offsets, the pairs and the rest, put together. Assumes nothing.
-use Rattle.std.proofs.Common.{rules, refl, ◌∙◌, w32, FitsSigned, to_z-of_z}
-use lib.Dec.{lit≤}
-use Rattle.whole.specs.Interval.{word, is_shr}
+-- The 13 fields, each by itself.
+use Rattle.std.proofs.Common.{rules, ◌≡◌, FitsSigned, lit≤, refl, pos, to_z, w32, bit_and, of_z}
+use Rattle.whole.specs.Numbers.{mod_z}
 use Rattle.whole.specs.Wrapping.{masked}
-use Rattle.records.specs.Alike.{alike_five}
-use Rattle.records.specs.Parts.{joined_record}
+use Rattle.records.specs.Alike.{alike_records}
 use Rattle.records.specs.Unpacking.{record_of}
 use Rattle.records.proofs.unpack_record.Goals as goal
 
 pub returns : goal.returns
 unfolding record_of
 returns c =
-    let sad : FitsSigned w32 c.args.words.sad = search rules in
     let last : FitsSigned w32 c.args.words.last = search rules in
-    c.joined_record.ensures
-    ∙ alike_five joined_record
-    c.offsets_of.ensures
-    c.pairs_of.ensures
-    (to_z-of_z sad)
-    (is_shr 4 (word last) tt tt).same
-    (masked w32 2 1073741824 refl (lit≤ tt) last)
+    let flags : to_z w32 (bit_and (of_z w32 c.args.words.last) 3) ≡ pos (mod_z c.args.words.last 4) = masked w32 2 1073741824 refl (lit≤ tt) last in
+    search (rules, alike_records)

@@ -1,7 +1,7 @@
--- The array that no entry has been put into holds zeros. Assumes nothing.
+-- The array that no entry has been put into holds zeros.
 use Rattle.std.proofs.Common.{refl}
 use Rattle.choosing.specs.Tables.{zeros_small}
 use Rattle.replay_choosing.proofs.table.Goals as goal
 
-pub loop-k-init : goal.loop-k-init
-loop-k-init c = record { long = refl; small = zeros_small }
+pub loop-slot-init : goal.loop-slot-init
+loop-slot-init c = record { long = refl; small = zeros_small }

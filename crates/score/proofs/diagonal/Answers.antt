@@ -1,4 +1,5 @@
 -- The limits leave squares whose sum fits, a root below 23,171, and a product that fits. Assumes nothing.
+use Rattle.std.specs.Prelude.{Some}
 use Rattle.std.proofs.Common.{◌≡◌, true, ◌&&◌, ℕ, ◌+◌, ◌≤◌, ℤ, pos, ◌*ℤ◌, sym, ap, ◌∙◌, arith, to_z, of_z, w32, to_z-of_z}
 use Rattle.std.proofs.Math.Facts.{to_z_pos}
 use Rattle.limits.specs.Ranges.{pel_within}
@@ -6,7 +7,6 @@ use Rattle.whole.specs.Numbers.{root_of}
 use Rattle.whole.specs.Truth.{left_of, right_of}
 use Rattle.whole.specs.Interval.{Is, is_arg, within_more, ask_times, is_times, fits}
 use Rattle.limits.specs.Limits.{is_frame_side, is_pel}
-use Rattle.score.specs.declared.Answer.TheVariants.{Is as Answered}
 use Rattle.score.specs.Diagonal.{squared, diagonal_of, frame_fits, diagonal_answer}
 use Rattle.score.specs.Bounds.{squared_small, root_small}
 use Rattle.score.proofs.diagonal.Goals as goal
@@ -36,30 +36,18 @@ module _ (c : goal.After-root-r) where
       is_arg c.ranges.pel (within_more lies tt tt)
 
   root_is : c.root-r.result ≡ root_of (squared c.args.width + squared c.args.height)
-  root_is = let f = c.ranges.width in let g = c.ranges.height in simp to_z-of_z at c.root-r.ensures
+  root_is =
+      let f = c.ranges.width in
+      let g = c.ranges.height in
+      let w = simp to_z-of_z at c.size-w.ensures in
+      let h = simp to_z-of_z at c.size-h.ensures in
+      rw (w, h) at c.root-r.ensures
 
   root_read : Is w32 23170 23170 (to_z w32 c.root-r.result) (pos c.root-r.result)
   root_read =
       let e = root_is in
       let s = small c.args.width c.args.height c.args.pel accepted in
       record { same = to_z_pos w32 (omega arith); lies = record { low = omega arith; high = omega arith } }
-
-pub returns-then-not-frame_fits : goal.returns-then-not-frame_fits
-unfolding diagonal_answer
-returns-then-not-frame_fits c =
-    let f = c.ranges.width in
-    let g = c.ranges.height in
-    let h = c.ranges.pel in
-    let refused = sym (simp to_z-of_z at c.if-not-frame_fits.ensures) in
-    simp refused
-
-pub overflow_mul-h : goal.overflow_mul-h
-overflow_mul-h c =
-    let f = c.ranges.width in
-    let g = c.ranges.height in
-    let h = c.ranges.pel in
-    let small = high c.args.width c.args.height c.args.pel (sym (simp to_z-of_z at c.if-not-frame_fits.ensures)) in
-    simp to_z-of_z (record { fits = omega arith })
 
 pub overflow_cast-r : goal.overflow_cast-r
 overflow_cast-r c = fits {w = w32} (root_read c).lies tt tt
@@ -71,4 +59,4 @@ pub returns : goal.returns
 unfolding diagonal_answer diagonal_of
 returns c =
     let value = (is_times (pel_is c) (root_read c) tt tt).same ∙ ap (λ (n : ℕ). c.args.pel *ℤ pos n) (root_is c) in
-    simp (accepted c) (ap Answered value)
+    simp (accepted c) (ap Some value)

@@ -15,8 +15,8 @@ offset_bounds-offsets-n c = omega (arith, c.slots_used-used.ensures, slots_few c
 pub bounds-offsets-n : goal.bounds-offsets-n
 bounds-offsets-n c = omega (arith, c.slots_used-used.ensures, slots_few c.requires.served.narrow)
 
-pub cost_of-requires : goal.cost_of-requires
-cost_of-requires c =
+pub cost-requires : goal.cost-requires
+cost-requires c =
     let p = c.requires.packed_block in
     let near = p.1.1.near c.loop-n.n in
     record { placed = p.1.0; packed = p.0; near = rw (is_within w64 near tt tt).same near }
@@ -30,7 +30,7 @@ bounds-out-n c = omega (arith, c.slots_used-used.ensures, slots_few c.requires.s
 pub loop-n-preserved : goal.loop-n-preserved
 loop-n-preserved c =
     let near = c.requires.packed_block.1.1.near c.loop-n.n in
-    let cost = rw (is_within w64 near tt tt).same at c.cost_of.ensures in
+    let cost = rw (is_within w64 near tt tt).same at c.cost.ensures in
     rw (cost, c.loop-n.invariant) (sym (costs_next _ _ _))
 
 pub returns : goal.returns

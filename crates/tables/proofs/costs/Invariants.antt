@@ -6,4 +6,4 @@ use Rattle.tables.specs.Tables.{costs_upto}
 use Rattle.tables.proofs.costs.Given as goal
 
 abbrev pub invariant-loop-n : goal.invariant-loop-n
-invariant-loop-n l = l.out ≡ costs_upto (place_cost l.measure l.w l.h (block_of l.block l.w) l.samples l.place) l.offsets l.n
+invariant-loop-n l = l.out ≡ costs_upto (place_cost l.measure l.block.w l.block.h (block_of l.block.samples.now l.block.w) l.view.bytes.now l.view.place) l.offsets l.n

@@ -1,10 +1,10 @@
 -- What is still to be found, behind the bytes passed, is what was to be found at first. Assumes nothing.
-use Rattle.std.proofs.Common.{◌≡◌, true, ◌&&◌, List, [], ◌∷◌, ℕ, ◌+◌, ◌<◌, sym, ap, ◌∙◌, add-one, arith, length, drop, get_or, drop-cons, eq-eqb, ne_eqb}
+use Rattle.std.proofs.Common.{◌≡◌, true, ◌&&◌, List, [], ◌∷◌, ℕ, ◌+◌, ◌<◌, sym, ap, ◌∙◌, add-one, arith, length, drop, get_or, drop-cons, eq-eqb, ne_eqb, Err}
 use Rattle.std.proofs.Math.Seq.{drop-length}
 use Rattle.whole.specs.Truth.{both_alike}
 use Rattle.tile_input.specs.declared.Word.{Word}
 use Rattle.tile_input.specs.declared.Word.TheVariants as variant
-use Rattle.tile_input.specs.declared.Number.TheVariants as number
+use Rattle.tile_input.specs.declared.NoNumber.TheVariants.{Missing}
 use Rattle.tile_input.specs.Input.{is_blank, number_at}
 use Rattle.tile_input.specs.Parts.{is_begun, told, number_from}
 use Rattle.tile_input.specs.Scanned.{scanned}
@@ -22,7 +22,7 @@ module _ (text : List ℕ) (i : ℕ) (h : i < length text) (left : ℕ) (w : Wor
 last : (left : ℕ) (w : Word) → left ≡ 0 → told w ≡ number_from left w []
 last left w z = rw (eq-eqb left 0 z)
 
-too_few : (left : ℕ) (w : Word) → (left ≡ 0 → ⊥) → number.Missing ≡ number_from left w []
+too_few : (left : ℕ) (w : Word) → (left ≡ 0 → ⊥) → Err Missing ≡ number_from left w []
 too_few left w n = rw (ne_eqb left 0 n)
 
 at_end : (text : List ℕ) (place left i : ℕ) (w : Word) → number_from left w (drop i text) ≡ number_from place variant.Unbegun text → i ≡ length text →
@@ -33,19 +33,19 @@ at_end text place left i w kept e =
 
 pub returns-then-left-eq0 : goal.returns-then-left-eq0
 returns-then-left-eq0 c =
-    let l = c.loop-i in
+    let l = c.loop-byte in
     let text = c.args.text.now in
     c.tell.ensures
-    ∙ found text l.i (omega arith) l.left l.word (sym (both_alike c.is_blank.ensures c.is_begun.ensures) ∙ c.if-is_blank-is_begun.true) c.if-left-eq0.true
-    ∙ l.invariant.1.1
+    ∙ found text l.byte-index (omega arith) l.left l.word (sym (both_alike c.is_blank.ensures c.is_begun.ensures) ∙ c.if-is_blank-is_begun.true) c.if-left-eq0.true
+    ∙ l.invariant
     ∙ scanned text c.args.place
 
 pub returns-then-left-gt0 : goal.returns-then-left-gt0
 returns-then-left-gt0 c =
-    let l = c.loop-i in
-    too_few l.left l.word (omega (arith, c.if-left-gt0.true)) ∙ at_end c.args.text.now c.args.place l.left l.i l.word l.invariant.1.1 (omega arith)
+    let l = c.loop-byte in
+    too_few l.left l.word (omega (arith, c.if-left-gt0.true)) ∙ at_end c.args.text.now c.args.place l.left l.byte-index l.word l.invariant (omega arith)
 
 pub returns : goal.returns
 returns c =
-    let l = c.loop-i in
-    c.tell-2.ensures ∙ last l.left l.word (omega (arith, c.if-left-gt0.false)) ∙ at_end c.args.text.now c.args.place l.left l.i l.word l.invariant.1.1 (omega arith)
+    let l = c.loop-byte in
+    c.tell-2.ensures ∙ last l.left l.word (omega (arith, c.if-left-gt0.false)) ∙ at_end c.args.text.now c.args.place l.left l.byte-index l.word l.invariant (omega arith)

@@ -1,6 +1,5 @@
--- Each number begins where the one before it ended. Assumes nothing.
-use Rattle.std.proofs.Common.{rules, w16, SFits}
-use Rattle.std.proofs.Math.Facts.{to_z-of_z}
+-- Each number behind the one before it. Assumes nothing.
+use Rattle.std.proofs.Common.{rules, w16, SFits, to_z-of_z}
 use Rattle.report_text.specs.PuttingLaws.{both_put}
 use Rattle.tile_lines.proofs.put_row.Goals as goal
 
@@ -11,8 +10,8 @@ returns-clause-puts c =
     let f1 : SFits w16 q.b = search rules in
     let f2 : SFits w16 q.c = search rules in
     let f3 : SFits w16 q.d = search rules in
-    let one = simp to_z-of_z at c.put_entry-one.ensures.puts in
-    let two = simp to_z-of_z at c.put_entry-two.ensures.puts in
-    let three = simp to_z-of_z at c.put_entry-three.ensures.puts in
-    let four = simp to_z-of_z at c.put_entry-four.ensures.puts in
-    both_put (both_put (both_put (both_put one two) three) four) c.put.ensures
+    let one = simp to_z-of_z at c.put_entry.ensures.puts in
+    let two = simp to_z-of_z at c.put_entry-2.ensures.puts in
+    let three = simp to_z-of_z at c.put_entry-3.ensures.puts in
+    let four = simp to_z-of_z at c.put_entry-4.ensures.puts in
+    both_put _ _ _ (both_put _ _ _ (both_put _ _ _ (both_put _ _ _ one two) three) four) c.put.ensures

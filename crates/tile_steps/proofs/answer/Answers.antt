@@ -4,4 +4,4 @@ use Rattle.tile_input.specs.Given.{given_small}
 use Rattle.tile_steps.proofs.answer.Goals as goal
 
 pub show-requires : goal.show-requires
-show-requires c = given_small c.args.text.now c.in-Given.tile (sym c.in-Given.ensures)
+show-requires c = given_small c.args.text.now c.in-Ok.tile (sym c.in-Ok.ensures)

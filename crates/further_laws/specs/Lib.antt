@@ -1,0 +1,4 @@
+pub mod Line
+pub mod Parts
+pub mod Grids
+pub mod Answers

@@ -1,9 +1,0 @@
--- Each turn has one space less to write.
-use Rattle.std.proofs.Common.{◌≤◌}
-use Rattle.pass_demo.proofs.spaces.Given as goal
-
-abbrev pub invariant-loop-left : goal.invariant-loop-left
-invariant-loop-left l = l.left ≤ l.count
-
-abbrev pub decreases-loop-left : goal.decreases-loop-left
-decreases-loop-left l = l.left

@@ -1,9 +1,0 @@
--- A line for each record.
-use Rattle.std.proofs.Common.{◌-◌, ◌≤◌}
-use Rattle.plan_report.proofs.print_lines.Given as goal
-
-abbrev pub invariant-loop-number : goal.invariant-loop-number
-invariant-loop-number l = l.number ≤ l.count
-
-abbrev pub decreases-loop-number : goal.decreases-loop-number
-decreases-loop-number l = l.count - l.number

@@ -1,9 +1,0 @@
--- The place stays within the first n bytes. Assumes nothing.
-use Prim.Native.Nat.{◌≤◌}
-use Rattle.replay.proofs.lines_end.Given as goal
-
-abbrev pub invariant-loop-end : goal.invariant-loop-end
-invariant-loop-end l = l.end ≤ l.n
-
-abbrev pub decreases-loop-end : goal.decreases-loop-end
-decreases-loop-end l = l.end

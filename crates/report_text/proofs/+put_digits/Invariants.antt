@@ -1,5 +1,0 @@
--- It calls itself on a tenth of n.
-use Rattle.report_text.proofs.+put_digits.Given as goal
-
-abbrev pub decreases-put_digits : goal.decreases-put_digits
-decreases-put_digits l = l.n
