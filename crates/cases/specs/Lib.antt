@@ -1,3 +1,4 @@
 pub mod Places
 pub mod Samples
 pub mod Tallies
+pub mod Told

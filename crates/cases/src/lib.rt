@@ -8,6 +8,7 @@ ghost use Rattle.std.specs.Int.{w32};
 ghost use Rattle.whole.specs.Numbers.{wrapped};
 ghost use Rattle.cases.specs.Samples.{limited_to, up_to};
 ghost use Rattle.cases.specs.Tallies.{tallied_by};
+ghost use Rattle.cases.specs.Told.{Tells};
 
 // A line that is a case: its word, and the text of its numbers.
 #[derive(Clone, Copy)]
@@ -47,12 +48,10 @@ impl<'a> Case<'a> {
     pub fn parse(numbers: &[u8], room: &'a mut [i64]) -> Option<Case<'a>>
         ensures { IfSome result (λ case. length case.inputs.now + length case.answers.now ≤ length room.old) }
     {
-        let mut sides = numbers.split(|byte| *byte == b'=');
-        let inputs = put(sides.next()?, room)?;
-        let answers = put(sides.next()?, &mut room[inputs..])?;
-        if sides.next().is_some() {
-            return None;
-        }
+        let equals = memchr::memchr(b'=', numbers)?;
+        let inputs = put(&numbers[..equals], room)?;
+        // A second `=` is no part of a number.
+        let answers = put(&numbers[equals + 1..], &mut room[inputs..])?;
         let (inputs, behind) = room.split_at(inputs);
         Some(Case {
             inputs,
@@ -77,7 +76,8 @@ impl<'a> Case<'a> {
 
     // Whether the answers are these values: none is missing, and none is there beside them.
     pub fn answered<T: Copy + Into<i64>>(&self, values: &[T]) -> bool
-        ensures { result ≡ true → length self.now.answers.now ≡ length values.now }
+        ensures sized { result ≡ true → length self.now.answers.now ≡ length values.now }
+        ensures told { Tells T.converts result values.now self.now.answers.now }
     {
         self.answers.len() == values.len()
             && self
@@ -105,12 +105,23 @@ fn put(text: &[u8], room: &mut [i64]) -> Option<usize>
 }
 
 // No number of a vector has a plus, or more than 18 digits.
-fn number_of(digits: &[u8]) -> Option<i64> {
-    if digits.starts_with(b"+") {
-        return None;
+fn number_of(text: &[u8]) -> Option<i64> {
+    let (negative, digits) = match text {
+        [] | [b'-'] => return None,
+        [b'-', digits @ ..] => (true, digits),
+        _ => (false, text),
+    };
+    let size = digits.iter().try_fold(0, with_digit)?;
+    let number = i64::try_from(size).ok()?;
+    Some(if negative { -number } else { number })
+}
+
+fn with_digit(size: u64, byte: &u8) -> Option<u64> {
+    if size < 100_000_000_000_000_000 && byte.is_ascii_digit() {
+        Some(10 * size + u64::from(*byte - b'0'))
+    } else {
+        None
     }
-    let number = str::from_utf8(digits).ok()?.parse::<i64>().ok()?;
-    (number.unsigned_abs() < 1_000_000_000_000_000_000).then_some(number)
 }
 
 // A number from 0 to most.

@@ -2,3 +2,4 @@ pub mod Finished
 pub mod Outcome
 pub mod Fives
 pub mod Casts
+mod Folds

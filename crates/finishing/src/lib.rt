@@ -17,23 +17,28 @@ fn is_stray(index: i32, blocks: i32) -> bool
     !(0..blocks).contains(&index)
 }
 
+// Both tests are of the whole list, by folds: `any` stops at the first, so that the compiler can't ask several at a time.
 fn any_stray(indices: &[i32], blocks: i32) -> bool
     ensures { result ≡ any_stray blocks indices.now (length indices.now) }
 {
-    indices.iter().any(|index| is_stray(*index, blocks))
+    indices
+        .iter()
+        .fold(false, |stray, index| stray | is_stray(*index, blocks))
 }
 
 fn is_wild(x: i32, y: i32) -> bool
     ensures { result ≡ is_wild x y }
 {
-    !(whole::fits_i16(x) && whole::fits_i16(y))
+    !(whole::fits_i16(x) & whole::fits_i16(y))
 }
 
 fn any_wild(bests: &[i32]) -> bool
     ensures { result ≡ any_wild bests.now (length bests.now / numbers_per_best) }
 {
     let (by_five, _) = bests.as_chunks::<{ limits::NUMBERS_PER_BEST }>();
-    by_five.iter().any(|[x, y, ..]| is_wild(*x, *y))
+    by_five
+        .iter()
+        .fold(false, |wild, [x, y, ..]| wild | is_wild(*x, *y))
 }
 
 // One entry after the other, so that the later one wins.
@@ -44,9 +49,11 @@ fn write_vectors(indices: &[i32], bests: &[i32], vectors: &mut [i32])
     let (by_five, _) = bests.as_chunks::<{ limits::NUMBERS_PER_BEST }>();
     for (index, [x, y, sad, ..]) in indices.iter().zip(by_five) {
         let at = 3 * *index as usize;
-        vectors[at] = *x;
-        vectors[at + 1] = *y;
-        vectors[at + 2] = *sad;
+        // Read before they are stored, so that the compiler can move them together.
+        let three = [*x, *y, *sad];
+        vectors[at] = three[0];
+        vectors[at + 1] = three[1];
+        vectors[at + 2] = three[2];
     }
 }
 

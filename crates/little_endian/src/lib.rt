@@ -9,7 +9,8 @@ pub fn put_word(out: &mut [u8], word: i32)
     requires { 4 ≤ length out.old }
     ensures { out.new ≡ bytes_of word ++ drop 4 out.old }
 {
-    out[..4].copy_from_slice(&word.to_le_bytes());
+    let [a, b, c, d] = word.to_le_bytes();
+    out[..4].copy_from_slice(&[a, b, c, d]);
 }
 
 // The word whose four bytes stand at a place.

@@ -1,7 +1,7 @@
 // A plan file, form 1: its trailer, its records, whether it is accepted. Any bytes are taken, and refused by 01's table.
 #![tactic(auto)]
 
-ghost use Rattle.std.specs.Prelude.{◌≡◌, true, ◌+◌, ◌*◌, ◌≤◌, ◌<◌, List, ℤ, nat_abs, length, take};
+ghost use Rattle.std.specs.Prelude.{◌≡◌, true, ◌+◌, ◌*◌, ◌/◌, ◌≤◌, ◌<◌, List, ℤ, nat_abs, length, take};
 ghost use Rattle.limits.specs.Sizes.{words_per_record, bytes_per_record};
 ghost use Rattle.record_slice.specs.RecordSlice.{record_at};
 ghost use Rattle.plan_file.specs.PlanFile.{words_of, trailer_of, lengths_hold, trailer_holds, is_plan_file, wide_file, counts_of, head_of, plan_of};
@@ -58,15 +58,14 @@ impl Model for Words {
 }
 
 impl Words {
-    // They stand at the file's front, and are read as those in a lent slice are.
     fn of(file: &[u8]) -> Words
         requires { length file.now ≤ 65536 }
         ensures { result ≡ words_of file.now }
     {
-        let len = file.len() / 4;
-        let mut all = [0; 16384];
-        little_endian::words_into(file, &mut all[..len]);
-        Words { all, len }
+        Words {
+            all: front_words(file),
+            len: file.len() / 4,
+        }
     }
 
     fn as_slice(&self) -> &[i32]
@@ -74,6 +73,17 @@ impl Words {
     {
         &self.all[..self.len]
     }
+}
+
+// A file's words stand at its front, and are read as those in a lent slice are. Apart from `Words::of`, so that they are written where they stay.
+fn front_words(file: &[u8]) -> [i32; 16384]
+    requires { length file.now ≤ 65536 }
+    ensures { take (length file.now / 4) result ≡ words_of file.now }
+{
+    let mut words = [0; 16384];
+    let n = file.len() / 4;
+    little_endian::words_into(file, &mut words[..n]);
+    words
 }
 
 #[tactic(auto, unfolding(crate::specs::PlanFile::trailer_of))]
